@@ -1,0 +1,13 @@
+pub mod Ports
+pub mod State
+pub mod Flood
+pub mod Root
+pub mod Slot
+pub mod Calls
+pub mod Step
+pub mod Runs
+pub mod Promise
+pub mod Laws
+pub mod Numbers
+pub mod Walls
+pub mod Inhabited
