@@ -1,0 +1,5 @@
+pub mod Begins
+pub mod Boards
+pub mod Marking
+pub mod Records
+pub mod Slots

@@ -1,0 +1,9 @@
+pub mod Applying
+pub mod Asking
+pub mod BoardView
+pub mod Decisions
+pub mod Homes
+pub mod Occupancies
+pub mod Posted
+pub mod Standing
+pub mod Sweeping

@@ -1,0 +1,14 @@
+use mathlib.Core.Path.{_≡_, refl, _∙_}
+use Rattle.wall.proofs.Calls.{slot-did}
+use Rattle.wall.proofs.wall.Wall.slot.Needs as need
+
+pub returns : need.returns
+returns g c =
+    let layout = g .W·Wiring .layout (c .args .self .now .wiring) in
+    let sound = g .W·Wiring·met .sound (c .args .self .now .wiring) in
+    let n = c .node-count-count .ensures in
+    let fitted : c .fit .last .self .board .count ≡ layout .count = c .fit .ensures .fitted (rw n (sound .some-nodes)) (rw n (sound .few-nodes)) ∙ n in
+    record {
+      does = slot-did layout (c .args .self .now .core) (c .fit .last .self) (c .slot .last .self) _ (c .slot .result) fitted (c .fit .ensures .state layout) (c .of-ends .ensures) (c .slot .ensures .answer) (c .slot .ensures .after) (c .slot .ensures .count);
+      parts = (refl, refl);
+    }
