@@ -1,0 +1,4 @@
+pub mod Asked
+pub mod Clamped
+pub mod Gathered
+pub mod Performed

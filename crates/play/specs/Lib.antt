@@ -1,0 +1,4 @@
+pub mod Asks
+pub mod Makes
+pub mod Performs
+pub mod Places
