@@ -1,4 +1,6 @@
 //! The node records of a wall, and what a cut, a raised hand and a slot do to them.
+#![tactic(auto)]
+
 mod change;
 mod made;
 mod rows;

@@ -4,6 +4,8 @@
 //! The meaning of a set is `has`, and every set is told by `ports_where`, in `specs/PortSets.antt`; what the two
 //! choosers pick is said in `specs/Picks.antt`. The laws of sets stand in `proofs/PortSets.antt`. The examples in
 //! the comments are from the tests at the end of this file, which are proved and run.
+#![tactic(auto)]
+
 mod choosers;
 mod ports;
 

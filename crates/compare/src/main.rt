@@ -2,6 +2,8 @@
 //! many random cable lists as the first argument says, each powered up and then cut and recovered
 //! several times. Whenever both are calm, every root, mark and entry of every node is compared. The
 //! status is 1 if anything differs.
+#![tactic(auto)]
+
 mod answers;
 mod cuts;
 mod limits;

@@ -1,6 +1,8 @@
 //! Puts damaged wall files through the functions that make pages of a wall file, and prints how many
 //! were accepted and refused, and a hash over all answers. The first argument is the number of files.
 //! The files are random and the same in every run.
+#![tactic(auto)]
+
 mod bytes;
 mod cables;
 mod damage;

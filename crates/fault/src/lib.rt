@@ -1,6 +1,8 @@
 //! What can be wrong with a wall file or a mesh. A fault of a cable is carried whole in the
 //! header's fault, and that in the wall's, so the number, layer, index and place of a refusal are
 //! the same wherever it is met. specs/Fault.antt says them for every fault.
+#![tactic(auto)]
+
 ghost use Rattle.std.specs.Prelude.{◌≡◌};
 ghost use Rattle.fault.specs.declared.HeaderFault.TheVariants.{Cable};
 ghost use Rattle.fault.specs.declared.WallFault.TheVariants.{Header};

@@ -1,5 +1,7 @@
 //! Checks a wall file: reads it from standard input, and prints what it spells or what is wrong with
 //! it. The status is 0 for a good file and 1 for a refused one.
+#![tactic(auto)]
+
 use anyhow::anyhow;
 
 mod input;

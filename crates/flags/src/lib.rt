@@ -8,6 +8,7 @@
 //! A node that has detected a failure and is not recovering becomes a root in its own slot. Each node that its flag reaches
 //! recovers from then on: it empties its routing table, marks its ports up (towards the root) or down, and broadcasts a flag
 //! of its own in its next slot. After as many cycles as the square of the number of nodes it works normally again.
+#![tactic(auto)]
 
 mod slot;
 #[cfg(test)]

@@ -1,4 +1,6 @@
 //! A broadcast: how the flag of a slot's owner spreads over marked cables, cycle by cycle.
+#![tactic(auto)]
+
 mod cells;
 mod cycle;
 mod ends;

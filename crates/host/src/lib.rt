@@ -3,6 +3,8 @@
 //!
 //! `host/wall_page.h` declares the call for C. What it answers and what it leaves in the host's memory is
 //! said in `specs/Host.antt`, by the definitions of the pages themselves.
+#![tactic(auto)]
+
 ghost use Rattle.std.specs.Prelude.{◌≡◌, ◌≤◌, min, length, IfOk};
 ghost use Rattle.host.specs.Host.{told, asked, place_after, Enough};
 

@@ -1,5 +1,7 @@
 //! Prints the pages of a wall: reads a wall file from standard input, and prints its nodes' pages or why it is
 //! refused. The status is 0 for a good file and 1 for a refused one.
+#![tactic(auto)]
+
 use anyhow::anyhow;
 use page::{WALL_MAX, pages};
 use std::io::{Read, Write};

@@ -1,5 +1,7 @@
 //! The text of pages as definitions (specs/Text), what a page says (specs/Reading), and the theorems that it can be read
 //! back (specs/Laws), each the contract of a function that does nothing: the crate is proved only if they hold.
+#![tactic(auto)]
+
 ghost use Rattle.pagetext.specs.Laws.{DecimalLaw, ReadBackLaw, SamePageLaw};
 
 /// The numbers on pages are written as decimals.

@@ -1,4 +1,6 @@
 //! What a wall answers, as text. specs/Text.antt has every line.
+#![tactic(auto)]
+
 pub mod lines;
 pub mod text;
 pub mod types;

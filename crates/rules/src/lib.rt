@@ -1,5 +1,7 @@
 //! The plain types of a wall, and its rules as definitions (specs/): what each call answers and
 //! what it leaves behind, what a run of calls is, and what every run promises.
+#![tactic(auto)]
+
 ghost use Rattle.std.specs.Prelude.{◌≡◌};
 ghost use Rattle.rules.specs.Numbers.{act_number, ending_number, refusal_number, mode_letter, mark_letter};
 

@@ -1,5 +1,7 @@
 //! Plays a script on a wall: reads it from standard input, and prints every call and question with
 //! its answer. A line that cannot be read ends the run with status 1.
+#![tactic(auto)]
+
 mod input;
 mod play;
 mod setup;

@@ -1,5 +1,7 @@
 //! Scripts of calls on a wall: reading a line, and the text of every answer. specs/ says what each
 //! line means and what is printed.
+#![tactic(auto)]
+
 pub mod line;
 mod numbers;
 mod read;

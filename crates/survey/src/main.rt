@@ -1,5 +1,7 @@
 //! Measures walls as the field does: random cuts, broken nodes, and packets in flight while cables
 //! break, on the 8x8 mesh and on random cable lists. The first argument is the number of patterns.
+#![tactic(auto)]
+
 mod broken;
 mod field;
 mod graph;

@@ -3,6 +3,8 @@
 //! leaves behind is said by the definitions of `rules`, through the views in specs/View.antt: the
 //! public contracts stand on specs/Posting.antt (`Posts`) and specs/Stepping.antt (`StepDone`,
 //! `StepRefused`). A step costs time in proportion to the packets in flight.
+#![tactic(auto)]
+
 mod deciding;
 mod homing;
 mod occupancy;

@@ -5,6 +5,8 @@
 //! What a tray holds is said by `filled` and `rest`, and what a put does by `Puts` and `AllOrNone`, in
 //! `specs/Filled.antt`; the laws by which a caller reasons on stand in `proofs/Filled.antt`. The examples in the
 //! comments are from the tests at the end of this file, which are proved and run.
+#![tactic(auto)]
+
 mod calls;
 mod types;
 

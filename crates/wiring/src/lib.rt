@@ -1,6 +1,8 @@
 //! Wirings: which node's port a cable leads to. The trait `Wiring` says what every wiring is; a
 //! `Mesh` is one by rule, and a `CableList` is one that a wall file spells. specs/Layout.antt has
 //! what a wiring means.
+#![tactic(auto)]
+
 ghost use Rattle.std.specs.Prelude.{◌≡◌};
 ghost use Rattle.wiring.specs.Layout.{Layout, Sound};
 
