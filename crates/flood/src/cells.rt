@@ -1,6 +1,6 @@
 //! One node in one cycle: which ports get a flag, and what it then writes.
 ghost use Rattle.std.specs.Prelude.{◌≡◌, ◌+◌, ◌<◌, not, ◌&&◌, ◌||◌, length};
-ghost use Rattle.rules.specs.Flood.{is_up, is_down, is_marked, all-up, passes_on, sends, gets, next_cell, wrote};
+ghost use Rattle.rules.specs.Flood.{is_up, is_down, is_marked, all_up, passes_on, sends, gets, next_cell, wrote};
 ghost use Rattle.flood.specs.View.{wired, marks_view, cell_view, cells_view};
 
 use crate::types::{Cell, FarEnd, Marks, Wave};
@@ -42,7 +42,7 @@ fn is_marked(mark: Mark) -> bool
 // Whether every port of the set is marked up at the node.
 fn every_up(marks: &Marks, node: u8, ports: [bool; 4]) -> bool
     requires { node < 64 }
-    ensures { result ≡ all-up (marks_view marks.now) node ports }
+    ensures { result ≡ all_up (marks_view marks.now) node ports }
 {
     let m = marks[node as usize];
     (!ports[0] | marked_up(m[0]))

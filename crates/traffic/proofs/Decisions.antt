@@ -19,7 +19,6 @@ use Rattle.traffic.specs.Choosing.{offer_set, fate_view, settles, led_by, landin
 use Rattle.traffic.specs.declared.types.Occupancy.{Occupancy}
 use Rattle.traffic.specs.Occupied.{counted, Counts}
 use Rattle.traffic.specs.Offers.{port_offered}
-use Rattle.traffic.proofs.Occupancies.{none_there}
 
 -- The far end of a port
 
@@ -37,13 +36,9 @@ module _ (layout : Layout) (n p : ℕ) where
     unfolding far_port_empty
     far_empty_at_none e = ap empty_at e
 
-    -- The far port is empty where the occupancy counts no packet.
-    pub far_empty_at_some : Sound layout → (occupancy : Occupancy) → Counts occupancy others → (m q : ℕ) → Some (m, q) ≡ layout.far n p →
-        eqb (counted occupancy m q) 0 ≡ far_port_empty layout others n p
+    pub far_empty_at_some : (m q : ℕ) → Some (m, q) ≡ layout.far n p → not (taken m q others) ≡ far_port_empty layout others n p
     unfolding far_port_empty
-    far_empty_at_some sound occupancy h m q e =
-        let inside = far_inside sound m q e in
-        none_there occupancy others h m q inside.0 inside.1 ∙ ap empty_at e
+    far_empty_at_some m q e = ap empty_at e
 
 -- Offers
 

@@ -65,7 +65,7 @@ module _ (n p : ℕ) where
   standing_few [] = omega arith
   standing_few (x ∷ xs) = omega (arith, one_most x, standing_few xs)
 
-  empty_there : (xs : List Packet) → eqb (standing_at n p xs) 0 ≡ not (taken n p xs)
+  pub empty_there : (xs : List Packet) → eqb (standing_at n p xs) 0 ≡ not (taken n p xs)
   unfolding standing_at taken
   empty_there [] = refl
   empty_there (x ∷ xs) = go (stands_at n p x) (empty_there xs)
@@ -121,10 +121,6 @@ module _ (counts : List ℕ) (x : Packet) (q : ℕ) (there : x.standing ≡ At q
 
 pub room_for_few : (occupancy : Occupancy) (xs : List Packet) → Counts occupancy xs → length xs < 65535 → Room occupancy
 room_for_few occupancy xs h few n p l k = omega (arith, h n p l k, standing_few n p xs)
-
-pub none_there : (occupancy : Occupancy) (xs : List Packet) → Counts occupancy xs → (n p : ℕ) → n < 64 → p < 4 →
-    eqb (counted occupancy n p) 0 ≡ not (taken n p xs)
-none_there occupancy xs h n p l k = ap (λ (m : ℕ). eqb m 0) (h n p l k) ∙ empty_there n p xs
 
 pub counted_in : (occupancy : Occupancy) (xs : List Packet) (x : Packet) (ys : List Packet) → Inside x →
     Counts occupancy (xs ++ x ∷ ys) → CountedIn occupancy x

@@ -1,5 +1,5 @@
 -- The checks of a post, and the two ways that it ends.
-use Rattle.std.proofs.Common.{◌≡◌, ℕ, ◌+◌, ◌<◌, Bool, true, false, ◌||◌, eqb, leb, List, [], ◌∷◌, ◌++◌, length, Some, None, Option, refl, ap, ◌∙◌, arith}
+use Rattle.std.proofs.Common.{◌≡◌, ℕ, ◌+◌, ◌<◌, MatchOption, Bool, true, false, ◌||◌, eqb, leb, List, [], ◌∷◌, ◌++◌, length, Some, None, Option, refl, ap, ◌∙◌, arith}
 use Rattle.std.proofs.lemmas.Bool.{leb-false, or_parts}
 use Rattle.wiring.specs.Layout.{Layout}
 use Rattle.rules.specs.declared.Packet.{Packet}
@@ -46,6 +46,11 @@ module _ (board : Board) (flight : Flight) (source destination : ℕ) where
         leb-false most_packets flight.count passed.1,
         leb-false last_number flight.last passed.2,
       )
+
+  pub turned_room : (turned : Option Refusal) → turned ≡ why_not board flight source destination →
+      MatchOption turned ((source < board.count) × (flight.count < 256) × (flight.last < 4294967295)) (λ reason. reason ≡ reason)
+  turned_room None e = room_for_post e
+  turned_room (Some reason) e = refl
 
   abbrev checks : ℕ → ℕ → Option Refusal
   checks nodes packets =

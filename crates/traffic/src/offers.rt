@@ -69,6 +69,7 @@ fn is_far_port_empty<W: Wiring>(wiring: &W, occupancy: &Occupancy, node: u8, por
 }
 
 // Whether a packet may come in by one port and leave by the other.
+#[tactic(auto, unfolding(rules::specs::Step::turn))]
 fn is_turn(from: Mark, to: Mark) -> bool
     ensures { result ≡ turn from to }
 {

@@ -14,7 +14,7 @@ returns-then-joined c =
     let is = cell_read c.args.board.now.count c.args.cells.now c.args.node c.requires in
     made w (nodes_view c.args.board.now) cells c.args.root c.args.node _ _ _ _ _ _
     (ap (λ (x : rules.Node). x.live) (node_read c.args.board.now c.args.node c.requires))
-    c.mark-for.ensures c.mark-for-then-joined.ensures c.mark-for-then-joined-2.ensures c.mark-for-then-joined-3.ensures
+    c.mark_for.ensures c.mark_for-then-joined.ensures c.mark_for-then-joined-2.ensures c.mark_for-then-joined-3.ensures
     (empty_row c.args.board.now.count c.args.board.now.count_few)
     ∙ sym (rooted_joined w (nodes_view c.args.board.now) cells c.args.root c.args.node (ap is_joined is ∙ sym c.joined.ensures ∙ c.if-joined.true))
 

@@ -18,5 +18,5 @@ pub returns-in-Wrote : goal.returns-in-Wrote
 unfolding informed
 returns-in-Wrote c count h =
     ap (λ (row : List rules.Entry). record { mode = c.args.held.mode; hand = c.args.held.hand; live = c.args.held.live; marks = c.args.held.marks; row = row })
-    (row_written count c.args.held.row c.args.owner _ h ∙ ap (set (map entry_view (take count c.args.held.row)) c.args.owner) c.entry-with.ensures)
+    (row_written count c.args.held.row c.args.owner _ h ∙ ap (set (map entry_view (take count c.args.held.row)) c.args.owner) c.entry_with.ensures)
     ∙ sym (ap (λ (x : _). informed (node_view count c.args.held) c.args.owner (cell_view x)) c.in-Wrote.is)

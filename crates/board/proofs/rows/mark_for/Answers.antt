@@ -18,7 +18,7 @@ returns-in-Nowhere c =
     (far_read c.args.ends.now.at c.args.node c.args.port (omega (arith, c.args.board.now.count_few)) c.requires.1 ∙ ap end_view c.in-Nowhere.is))
 
 pub returns-in-To : goal.returns-in-To
-returns-in-To c = c.up_or_down.ensures ∙ rw (c.order-of.ensures, c.order-of-in-To.ensures)
+returns-in-To c = c.up_or_down.ensures ∙ rw (c.order_of.ensures, c.order_of-in-To.ensures)
     (sym (mark_far (wired c.args.board.now.count c.args.ends.now.at) (nodes_view c.args.board.now) (cells_view c.args.board.now.count c.args.cells.now) c.args.node c.args.port _ _
     (live_read c.args.board.now c.args.node c.args.port c.requires.0 ∙ c.if-not-live.false)
     (far_read c.args.ends.now.at c.args.node c.args.port (omega (arith, c.args.board.now.count_few)) c.requires.1 ∙ ap end_view c.in-To.is)))

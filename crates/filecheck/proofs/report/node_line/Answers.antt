@@ -9,5 +9,5 @@ same_line n e f g h = λ i. line_text n (e i) (f i) (g i) (h i)
 pub returns : goal.returns
 returns g c =
     IfOk-weaker c.line.result _ _
-    (λ s e. e ∙ same_line c.args.node c.far-end.ensures c.far-end-2.ensures c.far-end-3.ensures c.far-end-4.ensures)
+    (λ s e. e ∙ same_line c.args.node c.far_end.ensures c.far_end-2.ensures c.far_end-3.ensures c.far_end-4.ensures)
     c.line.ensures

@@ -17,4 +17,4 @@ returns-then-at-c c = rw (c.in-Wrote.is, ne_eqb _ _ c.if-at-c.true) refl
 
 pub returns-else-at-c : goal.returns-else-at-c
 unfolding passes_on
-returns-else-at-c c = rw (c.in-Wrote.is, eq-eqb _ _ c.if-at-c.false, c.may-pass.ensures, c.marked-down.ensures, c.marked_up.ensures, c.every-up.ensures) refl
+returns-else-at-c c = rw (c.in-Wrote.is, eq-eqb _ _ c.if-at-c.false, c.may_pass.ensures, c.marked_down.ensures, c.marked_up.ensures, c.every_up.ensures) refl

@@ -6,7 +6,7 @@ use Rattle.flood.proofs.cells.heard.Goals as goal
 pub returns-then-ports : goal.returns-then-ports
 returns-then-ports c =
     let read = cell_read c.args.wave.now.count c.args.cells.now c.args.node c.requires.0 in
-    c.reached-cell.ensures ∙ some_flag _ _ _ _ _ _ _ _ _ _ c.got.ensures c.got-in-Waiting.ensures c.got-in-Waiting-2.ensures c.got-in-Waiting-3.ensures
+    c.reached_cell.ensures ∙ some_flag _ _ _ _ _ _ _ _ _ _ c.got.ensures c.got-in-Waiting.ensures c.got-in-Waiting-2.ensures c.got-in-Waiting-3.ensures
     (read ∙ ap cell_view c.in-Waiting.is) c.if-ports.true
 
 pub returns-else-ports : goal.returns-else-ports
@@ -23,4 +23,4 @@ returns-in-Deaf c =
 pub returns-in-Wrote : goal.returns-in-Wrote
 returns-in-Wrote c =
     let read = cell_read c.args.wave.now.count c.args.cells.now c.args.node c.requires.0 in
-    c.kept-cell.ensures ∙ sym (next_wrote _ _ _ _ _ _ _ _ (read ∙ ap cell_view c.in-Wrote.is))
+    c.kept_cell.ensures ∙ sym (next_wrote _ _ _ _ _ _ _ _ (read ∙ ap cell_view c.in-Wrote.is))

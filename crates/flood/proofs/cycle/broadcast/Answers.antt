@@ -18,10 +18,10 @@ cycle-preserved c =
     let m = marks_view c.args.wave.now.marks in
     let more : 0 < c.args.wave.now.count - c.cycle.c = omega arith in
     let fuel : (c.args.wave.now.count - c.cycle.c) - 1 ≡ c.args.wave.now.count - (c.cycle.c + 1) = omega arith in (
-      c.one-cycle-after.ensures.long,
+      c.one_cycle-after.ensures.long,
       omega arith,
-      c.cycle.invariant.2 ∙ spread_goes w m c.args.wave.now.owner _ c.cycle.c _ _ more c.one-cycle-after.ensures.cells (sym c.one-cycle-after.ensures.reached ∙ c.if-not-reached.false)
-          ∙ ap (λ (f : ℕ). spread_from w m c.args.wave.now.owner f (c.cycle.c + 1) (cells_view c.args.wave.now.count c.one-cycle-after.result.cells)) fuel,
+      c.cycle.invariant.2 ∙ spread_goes w m c.args.wave.now.owner _ c.cycle.c _ _ more c.one_cycle-after.ensures.cells (sym c.one_cycle-after.ensures.reached ∙ c.if-not-reached.false)
+          ∙ ap (λ (f : ℕ). spread_from w m c.args.wave.now.owner f (c.cycle.c + 1) (cells_view c.args.wave.now.count c.one_cycle-after.result.cells)) fuel,
     )
 
 pub returns-then-c-count : goal.returns-then-c-count
@@ -36,6 +36,6 @@ returns-then-not-reached c =
     let more : 0 < c.args.wave.now.count - c.cycle.c = omega arith in
     record {
       value = c.cycle.invariant.2 ∙ spread_stops (wired c.args.wave.now.count c.args.wave.now.ends.at) (marks_view c.args.wave.now.marks) c.args.wave.now.owner
-          _ c.cycle.c _ _ more c.one-cycle-after.ensures.cells (sym c.one-cycle-after.ensures.reached ∙ c.if-not-reached.true);
+          _ c.cycle.c _ _ more c.one_cycle-after.ensures.cells (sym c.one_cycle-after.ensures.reached ∙ c.if-not-reached.true);
       long = c.cycle.invariant.0;
     }

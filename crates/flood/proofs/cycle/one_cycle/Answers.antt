@@ -15,7 +15,7 @@ loop-node-preserved c =
     let l : c.loop-node.node < length c.loop-node.next = omega (arith, c.loop-node.invariant.0, c.args.wave.now.count_few) in (
       length-set c.loop-node.next c.loop-node.node c.heard-cell.result ∙ c.loop-node.invariant.0,
       fill_more cell_view Waiting c.loop-node.next c.loop-node.node c.heard-cell.result _ l c.loop-node.invariant.1 c.heard-cell.ensures,
-      reached_more _ c.loop-node.next c.loop-node.node c.heard-cell.result _ _ l c.loop-node.invariant.2 c.written-in-reached.ensures,
+      reached_more _ c.loop-node.next c.loop-node.node c.heard-cell.result _ _ l c.loop-node.invariant.2 c.written_in-reached.ensures,
     )
 
 pub returns : goal.returns

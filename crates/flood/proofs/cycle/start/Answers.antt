@@ -11,8 +11,8 @@ loop-node-init c = (refl, λ k h. absurd (omega arith))
 pub loop-node-preserved : goal.loop-node-preserved
 loop-node-preserved c =
     let l : c.loop-node.node < length c.loop-node.cells = omega (arith, c.loop-node.invariant.0) in (
-      length-set c.loop-node.cells c.loop-node.node c.first-cell.result ∙ c.loop-node.invariant.0,
-      fill_more cell_view Waiting c.loop-node.cells c.loop-node.node c.first-cell.result _ l c.loop-node.invariant.1 c.first-cell.ensures,
+      length-set c.loop-node.cells c.loop-node.node c.first_cell.result ∙ c.loop-node.invariant.0,
+      fill_more cell_view Waiting c.loop-node.cells c.loop-node.node c.first_cell.result _ l c.loop-node.invariant.1 c.first_cell.ensures,
     )
 
 pub returns : goal.returns

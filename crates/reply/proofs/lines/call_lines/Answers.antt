@@ -6,12 +6,12 @@ use Rattle.reply.proofs.lines.call_lines.Goals as goal
 
 pub loop-outcome-preserved : goal.loop-outcome-preserved
 loop-outcome-preserved c =
-    rows_more outcome_line (string_bytes c.in-ok-text.text) c.args.outcomes.now c.loop-outcome.outcome-index _
-    (string_bytes c.loop-outcome.text) (string_bytes c.in-ok-line.line) (string_bytes c.push-str.new.self)
-    c.loop-outcome-test.true c.loop-outcome.invariant c.in-ok-line.ensures
-    (c.in-ok-push-str.ensures.bytes ∙ ap (λ line. string_bytes c.loop-outcome.text ++ line) c.as-str.ensures.value)
+    rows_more outcome_line (string_bytes c.in_ok-text.text) c.args.outcomes.now c.loop-outcome.outcome-index _
+    (string_bytes c.loop-outcome.text) (string_bytes c.in_ok-line.line) (string_bytes c.push_str.new.self)
+    c.loop-outcome-test.true c.loop-outcome.invariant c.in_ok-line.ensures
+    (c.in_ok-push_str.ensures.bytes ∙ ap (λ line. string_bytes c.loop-outcome.text ++ line) c.as_str.ensures.value)
 
 pub returns : goal.returns
 returns c =
-    rows_all outcome_line (string_bytes c.in-ok-text.text) c.args.outcomes.now c.loop-outcome.outcome-index _ c.loop-outcome-test.false c.loop-outcome.invariant
-    ∙ ap (λ t. t ++ flat_map outcome_line c.args.outcomes.now) c.in-ok-text.ensures
+    rows_all outcome_line (string_bytes c.in_ok-text.text) c.args.outcomes.now c.loop-outcome.outcome-index _ c.loop-outcome-test.false c.loop-outcome.invariant
+    ∙ ap (λ t. t ++ flat_map outcome_line c.args.outcomes.now) c.in_ok-text.ensures

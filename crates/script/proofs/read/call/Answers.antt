@@ -14,7 +14,7 @@ returns-then-same-2 c = past _ c.if-same.ensures (here _ c.if-same-2.ensures (c.
 
 pub returns-then-same-3 : goal.returns-then-same-3
 unfolding call_of
-returns-then-same-3 c = past _ c.if-same.ensures (past _ c.if-same-2.ensures (here _ c.if-same-3.ensures (c.slot.ensures ∙ ap slot_calls c.one-or.ensures)))
+returns-then-same-3 c = past _ c.if-same.ensures (past _ c.if-same-2.ensures (here _ c.if-same-3.ensures (c.slot.ensures ∙ ap slot_calls c.one_or.ensures)))
 
 pub returns-then-same-4 : goal.returns-then-same-4
 unfolding call_of
@@ -22,7 +22,7 @@ returns-then-same-4 c = past _ c.if-same.ensures (past _ c.if-same-2.ensures (pa
 
 pub returns-then-same-5 : goal.returns-then-same-5
 unfolding call_of
-returns-then-same-5 c = past _ c.if-same.ensures (past _ c.if-same-2.ensures (past _ c.if-same-3.ensures (past _ c.if-same-4.ensures (here _ c.if-same-5.ensures (c.step.ensures ∙ ap (option_map step_call) c.one-or-then-same-5.ensures)))))
+returns-then-same-5 c = past _ c.if-same.ensures (past _ c.if-same-2.ensures (past _ c.if-same-3.ensures (past _ c.if-same-4.ensures (here _ c.if-same-5.ensures (c.step.ensures ∙ ap (option_map step_call) c.one_or-then-same-5.ensures)))))
 
 pub returns-else-same-5 : goal.returns-else-same-5
 unfolding call_of

@@ -27,6 +27,6 @@ returns-then-same-3 c =
 pub returns-else-same-3 : goal.returns-else-same-3
 unfolding named_meaning
 returns-else-same-3 c =
-    says_also c.call-or-question.result
+    says_also c.call_or_question.result
     (past _ c.if-same.ensures (past _ c.if-same-2.ensures (past _ c.if-same-3.ensures (λ i. first_of (option_map make (c.call.ensures i)) (option_map ask (c.question.ensures i))))))
-    c.call-or-question.ensures
+    c.call_or_question.ensures

@@ -4,4 +4,4 @@ use Rattle.script.proofs.words.code.Goals as goal
 
 pub returns : goal.returns
 unfolding code_of
-returns c = c.split-at.ensures.front ∙ ap (λ n. take n c.args.line.now) c.run.ensures.value
+returns c = c.split_at.ensures.front ∙ ap (λ n. take n c.args.line.now) c.run.ensures.value

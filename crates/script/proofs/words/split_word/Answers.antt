@@ -17,8 +17,8 @@ rest_is text dark rest n e f g = g ∙ ap (λ k. drop k dark) f ∙ ap (λ d. dr
 
 pub returns : goal.returns
 returns c =
-    let dark = dark_is c.args.text.now c.split-at.result.1.now _ c.run.ensures.value c.split-at.ensures.back in
+    let dark = dark_is c.args.text.now c.split_at.result.1.now _ c.run.ensures.value c.split_at.ensures.back in
     record {
-      word = word_is c.args.text.now _ _ _ dark c.run-2.ensures.value c.split-at-2.ensures.front;
-      rest = rest_is c.args.text.now _ _ _ dark c.run-2.ensures.value c.split-at-2.ensures.back;
+      word = word_is c.args.text.now _ _ _ dark c.run-2.ensures.value c.split_at-2.ensures.front;
+      rest = rest_is c.args.text.now _ _ _ dark c.run-2.ensures.value c.split_at-2.ensures.back;
     }

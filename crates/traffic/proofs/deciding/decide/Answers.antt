@@ -8,9 +8,9 @@ pub returns-in-Some : goal.returns-in-Some
 returns-in-Some g c = record {
   decided = λ others h.
       decided_settled (g.W.Wiring.layout c.args.wiring.now) (nodes_view c.args.board.now) others c.args.x
-      c.mode_at.result c.entry-at-entry.result c.mode_at.ensures c.entry-at-entry.ensures
+      c.mode_at.result c.entry_at-entry.result c.mode_at.ensures c.entry_at-entry.ensures
       g.C.Chooser.picks c.args.chooser.now c.in-Some.fate c.in-Some.ensures;
-  lands = settled_inside c.mode_at.result (eqb c.args.x.node c.args.x.destination) c.entry-at-entry.result
+  lands = settled_inside c.mode_at.result (eqb c.args.x.node c.args.x.destination) c.entry_at-entry.result
       c.in-Some.fate c.in-Some.ensures;
 }
 
@@ -18,8 +18,8 @@ pub returns-in-None : goal.returns-in-None
 returns-in-None g c = record {
   decided = λ others h.
       decided_crossing (g.W.Wiring.layout c.args.wiring.now) (nodes_view c.args.board.now) others c.args.x
-      c.mode_at.result c.entry-at-entry.result c.mode_at.ensures c.entry-at-entry.ensures
-      g.C.Chooser.picks c.args.chooser.now c.cross.new.chooser c.ports-of.result c.offered.result (fate_view c.cross.result)
-      c.in-None.ensures c.ports-of.ensures (c.offered.ensures others h) c.cross.ensures.crossed;
+      c.mode_at.result c.entry_at-entry.result c.mode_at.ensures c.entry_at-entry.ensures
+      g.C.Chooser.picks c.args.chooser.now c.cross.new.chooser c.ports_of.result c.offered.result (fate_view c.cross.result)
+      c.in-None.ensures c.ports_of.ensures (c.offered.ensures others h) c.cross.ensures.crossed;
   lands = c.cross.ensures.lands;
 }

@@ -6,7 +6,7 @@ use Rattle.traffic.proofs.reads.entry_at.Goals.{else-node-board-via-then-node-bo
 
 pub returns-then-destination-board : goal.returns-then-destination-board
 returns-then-destination-board c =
-    ap entry_view c.entry-in.ensures
+    ap entry_view c.entry_in.ensures
     ∙ entry_inside c.args.board.now c.args.node c.args.destination c.if-node-board.true c.if-destination-board.true
 
 pub returns-else-node-board : goal.returns-else-node-board

@@ -5,7 +5,7 @@ use Rattle.traffic.proofs.reads.is_live.Goals as goal
 
 pub returns-then-node-board : goal.returns-then-node-board
 returns-then-node-board c =
-    c.has-port.ensures ∙ live_inside c.args.board.now c.args.node c.args.port c.if-node-board.true
+    c.has_port.ensures ∙ live_inside c.args.board.now c.args.node c.args.port c.if-node-board.true
 
 pub returns-else-node-board : goal.returns-else-node-board
 returns-else-node-board c =

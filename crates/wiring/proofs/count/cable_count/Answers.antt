@@ -8,4 +8,4 @@ loop-node-init g c = (below_none (g.W.Wiring.layout c.args.wiring.now), omega ar
 pub loop-node-preserved : goal.loop-node-preserved
 loop-node-preserved g c =
     let more = below_more (g.W.Wiring.layout c.args.wiring.now) c.loop-node.node in
-    (omega (arith, c.begin-at-count.ensures.value), omega arith)
+    (omega (arith, c.begin_at-count.ensures.value), omega arith)

@@ -3,4 +3,4 @@ use Rattle.tray.proofs.Filled.{memory_is}
 use Rattle.witness.proofs.lenders.byte_page.Goals as goal
 
 pub returns : goal.returns
-returns c = let whole = memory_is c.put-all.new.self in search rules
+returns c = let whole = memory_is c.put_all.new.self in search rules

@@ -10,5 +10,5 @@ loop-i-init g c = puts_none _
 pub loop-i-preserved : goal.loop-i-preserved
 loop-i-preserved g c =
     let left = free_after c.loop-i.invariant in
-    let one = puts_fitting c.put.ensures (omega (arith, length-replicate c.loop-i.-i c.args.x)) in
+    let one = puts_fitting c.put.ensures (omega (arith, length-replicate c.loop-i._i c.args.x)) in
     rw replicate_more at (puts_more c.loop-i.invariant one)

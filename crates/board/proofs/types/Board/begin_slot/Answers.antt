@@ -27,12 +27,12 @@ returns-in-Root c =
     let w = wired c.args.self.now.count c.args.ends.now.at in
     let nodes = nodes_view c.args.self.now in
     let is = begins_root w nodes c.args.owner (acts_read c.args.self.now w c.args.owner Root c.if-owner-self.false c.in-Root.ensures) in
-    let says = told_from c.args.self.now.count c.make-root.new.self.count c.args.ends.now.at (rooted w nodes c.args.owner) (nodes_view c.make-root.new.self) c.args.owner Root
-    c.speak-cycles.result (nodes_view c.speak-cycles.new.self) c.make-root.ensures.count c.make-root.ensures.nodes c.speak-cycles.ensures.cycles c.speak-cycles.ensures.nodes in
+    let says = told_from c.args.self.now.count c.make_root.new.self.count c.args.ends.now.at (rooted w nodes c.args.owner) (nodes_view c.make_root.new.self) c.args.owner Root
+    c.speak-cycles.result (nodes_view c.speak-cycles.new.self) c.make_root.ensures.count c.make_root.ensures.nodes c.speak-cycles.ensures.cycles c.speak-cycles.ensures.nodes in
     record {
       answer = c.answer-in-Root.ensures ∙ ap (λ (x : Begun). x.answer) (sym (is ∙ says));
       nodes = ap (λ (x : Begun). x.nodes) (sym (is ∙ says));
-      count = c.speak-cycles.ensures.count ∙ c.make-root.ensures.count;
+      count = c.speak-cycles.ensures.count ∙ c.make_root.ensures.count;
     }
 
 pub returns-in-Member : goal.returns-in-Member

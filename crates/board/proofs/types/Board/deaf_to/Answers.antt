@@ -17,7 +17,7 @@ loop-node-preserved c =
     let deaf = c.loop-node.deaf in
     let l : c.loop-node.node < length deaf = omega (arith, c.loop-node.invariant.0, c.args.self.now.count_few) in (
       length-set deaf c.loop-node.node _ ∙ c.loop-node.invariant.0,
-      below_written false deaf c.loop-node.node _ (λ (k : ℕ) (x : Bool). x ≡ cond (is_nothing (entry_view (get_or (get_or c.args.self.now.nodes k no_node).row c.args.owner Nothing))) false true) l c.loop-node.invariant.1 c.is-entry.ensures,
+      below_written false deaf c.loop-node.node _ (λ (k : ℕ) (x : Bool). x ≡ cond (is_nothing (entry_view (get_or (get_or c.args.self.now.nodes k no_node).row c.args.owner Nothing))) false true) l c.loop-node.invariant.1 c.is_entry.ensures,
       rest_written false deaf c.loop-node.node _ (λ (k : ℕ) (x : Bool). x ≡ false) c.loop-node.invariant.2,
     )
 

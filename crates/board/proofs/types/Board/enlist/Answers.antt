@@ -14,7 +14,7 @@ loop-node-preserved c =
     let l : c.loop-node.node < length nodes = omega (arith, c.loop-node.self.nodes_long, b.count_few) in (
       c.loop-node.invariant.0,
       below_written no_node nodes c.loop-node.node _
-          (λ (k : ℕ) (x : Node). node_view b.count x ≡ rooted_node (wired b.count c.args.ends.now.at) (nodes_view b) (cells_view b.count c.args.cells.now) c.args.root k) l c.loop-node.invariant.1 c.enlisted-record.ensures,
+          (λ (k : ℕ) (x : Node). node_view b.count x ≡ rooted_node (wired b.count c.args.ends.now.at) (nodes_view b) (cells_view b.count c.args.cells.now) c.args.root k) l c.loop-node.invariant.1 c.enlisted_record.ensures,
     )
 
 pub returns : goal.returns

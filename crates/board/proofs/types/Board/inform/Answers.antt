@@ -20,7 +20,7 @@ loop-node-preserved c =
     let same = c.loop-node.invariant.2 c.loop-node.node (omega arith) in (
       c.loop-node.invariant.0,
       below_written no_node nodes c.loop-node.node _ (λ (k : ℕ) (x : Node). node_view count x ≡ informed (node_view count (get_or c.args.self.now.nodes k no_node)) c.args.owner (cell_view (get_or c.args.cells.now k Waiting))) l c.loop-node.invariant.1
-          (c.informed-record.ensures count c.requires ∙ ap (λ (x : Node). informed (node_view count x) c.args.owner (cell_view (get_or c.args.cells.now c.loop-node.node Waiting))) same),
+          (c.informed_record.ensures count c.requires ∙ ap (λ (x : Node). informed (node_view count x) c.args.owner (cell_view (get_or c.args.cells.now c.loop-node.node Waiting))) same),
       rest_written no_node nodes c.loop-node.node _ (λ (k : ℕ) (x : Node). x ≡ get_or c.args.self.now.nodes k no_node) c.loop-node.invariant.2,
     )
 

@@ -13,7 +13,7 @@ pub loop-node-preserved : goal.loop-node-preserved
 loop-node-preserved c =
     let l : c.loop-node.node < length c.loop-node.marks = omega (arith, c.loop-node.invariant.0, c.args.self.now.count_few) in (
       length-set c.loop-node.marks c.loop-node.node _ ∙ c.loop-node.invariant.0,
-      below_written [] c.loop-node.marks c.loop-node.node _ (λ (k : ℕ) (x : List Mark). (p : ℕ) → get_or x p Unmarked ≡ cond (get_or (get_or c.args.self.now.nodes k no_node).live p false) Down Unmarked) l c.loop-node.invariant.1 c.open-marks-of.ensures,
+      below_written [] c.loop-node.marks c.loop-node.node _ (λ (k : ℕ) (x : List Mark). (p : ℕ) → get_or x p Unmarked ≡ cond (get_or (get_or c.args.self.now.nodes k no_node).live p false) Down Unmarked) l c.loop-node.invariant.1 c.open_marks_of.ensures,
       rest_written [] c.loop-node.marks c.loop-node.node _ (λ (k : ℕ) (x : List Mark). (p : ℕ) → get_or x p Unmarked ≡ Unmarked) c.loop-node.invariant.2,
     )
 

@@ -12,7 +12,7 @@ pub loop-node-preserved : goal.loop-node-preserved
 loop-node-preserved c =
     let l : c.loop-node.node < length c.loop-node.nodes = omega (arith, c.loop-node.invariant.0) in (
       length-set c.loop-node.nodes c.loop-node.node _ ∙ c.loop-node.invariant.0,
-      below_written no_node c.loop-node.nodes c.loop-node.node _ (λ (k : ℕ) (x : Node). (count : ℕ) → count ≤ 64 → node_view count x ≡ fresh (wired count c.args.ends.now.at) k) l c.loop-node.invariant.1 c.new-node.ensures,
+      below_written no_node c.loop-node.nodes c.loop-node.node _ (λ (k : ℕ) (x : Node). (count : ℕ) → count ≤ 64 → node_view count x ≡ fresh (wired count c.args.ends.now.at) k) l c.loop-node.invariant.1 c.new_node.ensures,
     )
 
 pub returns : goal.returns

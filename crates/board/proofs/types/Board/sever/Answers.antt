@@ -6,6 +6,6 @@ use Rattle.board.proofs.types.Board.sever.Goals as goal
 pub returns : goal.returns
 unfolding cut_end
 returns c = record {
-  nodes = node_written (cut_end c.args.port) c.args.self.now _ c.args.node _ c.requires refl refl (rw (c.less-held.ensures, c.hand-up-held.ensures) refl);
+  nodes = node_written (cut_end c.args.port) c.args.self.now _ c.args.node _ c.requires refl refl (rw (c.less-held.ensures, c.hand_up-held.ensures) refl);
   count = refl;
 }

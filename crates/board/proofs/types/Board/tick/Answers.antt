@@ -16,7 +16,7 @@ loop-node-preserved c =
     let same = c.loop-node.invariant.2 c.loop-node.node (omega arith) in (
       c.loop-node.invariant.0,
       below_written no_node nodes c.loop-node.node _ (λ (k : ℕ) (x : Node). node_view count x ≡ tick (node_view count (get_or c.args.self.now.nodes k no_node))) l c.loop-node.invariant.1
-          (c.ticked-record.ensures count ∙ ap (λ (x : Node). tick (node_view count x)) same),
+          (c.ticked_record.ensures count ∙ ap (λ (x : Node). tick (node_view count x)) same),
       rest_written no_node nodes c.loop-node.node _ (λ (k : ℕ) (x : Node). x ≡ get_or c.args.self.now.nodes k no_node) c.loop-node.invariant.2,
     )
 

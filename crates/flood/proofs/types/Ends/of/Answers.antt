@@ -16,8 +16,8 @@ loop-place-preserved g c =
       below_written Nowhere c.loop-place.at c.loop-place.place _ (λ (k : ℕ) (x : FarEnd). end_view x ≡ (g.W.Wiring.layout c.args.wiring.now).far (k / 4) (k % 4)) l c.loop-place.invariant.1 c.ask.ensures,
     )
 
-pub invariant-of-result : goal.invariant-of-result
-invariant-of-result g c = (all_fit_from _ (g.met.W.Wiring.sound c.args.wiring.now) c.loop-place.at c.loop-place.invariant.0 (λ k h. c.loop-place.invariant.1 k (omega arith)), tt)
+pub invariant_of-result : goal.invariant_of-result
+invariant_of-result g c = record { in_range = all_fit_from _ (g.met.W.Wiring.sound c.args.wiring.now) c.loop-place.at c.loop-place.invariant.0 (λ k h. c.loop-place.invariant.1 k (omega arith)) }
 
 pub returns : goal.returns
 returns g c = spells_layout _ (g.met.W.Wiring.sound c.args.wiring.now) c.loop-place.at (λ k h. c.loop-place.invariant.1 k (omega arith))

@@ -10,8 +10,8 @@ use Rattle.traffic.proofs.types.Flight.packet.Goals as goal
 pub at-requires : goal.at-requires
 at-requires c = omega (arith, in_flight c.args.self.now)
 
-pub returns-then-i-in-flight : goal.returns-then-i-in-flight
-returns-then-i-in-flight c =
+pub returns-then-i-in_flight : goal.returns-then-i-in_flight
+returns-then-i-in_flight c =
     sym
     (slice_get-get_or (packets_view c.args.self.now) c.args.i nowhere (omega arith)
     ∙ ap
@@ -19,5 +19,5 @@ returns-then-i-in-flight c =
     (get_or-take c.args.self.now.count c.args.self.now.places c.args.i nowhere (omega (arith, in_flight c.args.self.now))
     ∙ sym c.at.ensures))
 
-pub returns-else-i-in-flight : goal.returns-else-i-in-flight
-returns-else-i-in-flight c = sym (slice_get_past (packets_view c.args.self.now) c.args.i (omega arith))
+pub returns-else-i-in_flight : goal.returns-else-i-in_flight
+returns-else-i-in_flight c = sym (slice_get_past (packets_view c.args.self.now) c.args.i (omega arith))

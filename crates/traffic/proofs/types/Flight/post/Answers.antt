@@ -2,7 +2,7 @@ use Rattle.std.proofs.Common.{[], ◌∷◌, ◌++◌, sym, refl, ap, ◌∙◌,
 use Rattle.rules.specs.declared.Packet.{Packet}
 use Rattle.traffic.specs.Inside.{Inside}
 use Rattle.traffic.specs.View.{state, packets_view}
-use Rattle.traffic.proofs.Posted.{room_for_post, refused_by, post_turned_down, post_done}
+use Rattle.traffic.proofs.Posted.{post_turned_down, post_done}
 use Rattle.traffic.proofs.types.Flight.post.Goals as goal
 
 pub returns-in-Some : goal.returns-in-Some
@@ -10,18 +10,18 @@ returns-in-Some c = record {
   does = λ layout owner e.
       post_turned_down layout (state c.args.board.now owner c.args.self.now) c.args.source c.args.destination c.args.word
       c.in-Some.reason
-      (refused_by c.args.board.now c.args.self.now c.args.source c.args.destination layout owner e ∙ sym c.in-Some.ensures);
+      (c.in-Some.ensures.rules layout owner e);
   same = refl;
 }
 
-pub overflow-add-number : goal.overflow-add-number
-overflow-add-number c =
-    let room = room_for_post c.args.board.now c.args.self.now c.args.source c.args.destination c.in-default.ensures in
+pub overflow_add-number : goal.overflow_add-number
+overflow_add-number c =
+    let room = c.in_default.ensures.room in
     search rules
 
 pub add-requires : goal.add-requires
 add-requires c =
-    let room = room_for_post c.args.board.now c.args.self.now c.args.source c.args.destination c.in-default.ensures in
+    let room = c.in_default.ensures.room in
     (room.1, subst Inside (sym c.posted.ensures) (omega (arith, room.0, c.args.board.now.count_few), lit< tt))
 
 pub returns : goal.returns
@@ -29,7 +29,7 @@ returns c = record {
   does = λ layout owner e.
       post_done layout (state c.args.board.now owner c.args.self.now) c.args.source c.args.destination c.args.word
       (packets_view c.add.new.self)
-      (refused_by c.args.board.now c.args.self.now c.args.source c.args.destination layout owner e ∙ sym c.in-default.ensures)
+      (c.in_default.ensures.rules layout owner e)
       (c.add.ensures.packets ∙ ap (λ (x : Packet). packets_view c.args.self.now ++ x ∷ []) c.posted.ensures);
   same = refl;
 }

@@ -10,18 +10,14 @@ use Rattle.traffic.proofs.types.Flight.send_home.Goals as goal
 pub loop-i-init : goal.loop-i-init
 loop-i-init c = (front_none (sent_home (nodes_view c.args.board.now)) c.args.self.now.places, refl, refl)
 
-pub invariant-of-self : goal.invariant-of-self
-invariant-of-self c = (
-  c.loop-i.self.few,
-  (
-    length-set c.loop-i.self.places c.loop-i.i c.sent_home.result ∙ c.loop-i.self.long,
-    (
+pub invariant_of-self : goal.invariant_of-self
+invariant_of-self c = record {
+  few = c.loop-i.self.few;
+  long = length-set c.loop-i.self.places c.loop-i.i c.sent_home.result ∙ c.loop-i.self.long;
+  inside =
       inside_set c.loop-i.self.places c.loop-i.i c.sent_home.result c.loop-i.self.inside
-          (subst Inside (sym c.sent_home.ensures) (home_inside (nodes_view c.args.board.now) _ (c.loop-i.self.inside c.loop-i.i))),
-      tt,
-    ),
-  ),
-)
+      (subst Inside (sym c.sent_home.ensures) (home_inside (nodes_view c.args.board.now) _ (c.loop-i.self.inside c.loop-i.i)));
+}
 
 pub loop-i-preserved : goal.loop-i-preserved
 loop-i-preserved c = (

@@ -9,8 +9,8 @@ loop-i-init g c =
     c.args.self.now c.args.tray.now c.args.chooser.now c.args.occupancy.now c.args.progress.now
     c.requires.ready c.requires.none.0 c.requires.none.1
 
-pub take-one-requires : goal.take-one-requires
-take-one-requires g c = record {
+pub take_one-requires : goal.take_one-requires
+take_one-requires g c = record {
   ready = c.loop-i.invariant.ready;
   within = omega (arith, c.loop-i-test.true, c.loop-i.invariant.count_stays);
 }

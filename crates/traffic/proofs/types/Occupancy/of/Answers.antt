@@ -1,5 +1,5 @@
 use Rattle.traffic.proofs.Occupancies.{counts_none}
 use Rattle.traffic.proofs.types.Occupancy.of.Goals as goal
 
-pub arrive-all-requires : goal.arrive-all-requires
-arrive-all-requires c = counts_none
+pub arrive_all-requires : goal.arrive_all-requires
+arrive_all-requires c = counts_none

@@ -2,11 +2,11 @@ use Rattle.std.proofs.Common.{rules}
 use Rattle.tray.proofs.Filled.{used_and_free}
 use Rattle.tray.proofs.types.Tray.put_all.Goals as goal
 
-pub write-all-requires : goal.write-all-requires
-write-all-requires g c = let fits = used_and_free c.args.self.now in search rules
+pub write_all-requires : goal.write_all-requires
+write_all-requires g c = let fits = used_and_free c.args.self.now in search rules
 
-pub overflow-add-self : goal.overflow-add-self
-overflow-add-self g c = let fits = used_and_free c.args.self.now in search rules
+pub overflow_add-self : goal.overflow_add-self
+overflow_add-self g c = let fits = used_and_free c.args.self.now in search rules
 
-pub invariant-of-self : goal.invariant-of-self
-invariant-of-self g c = let fits = used_and_free c.args.self.now in search rules
+pub invariant_of-self : goal.invariant_of-self
+invariant_of-self g c = let fits = used_and_free c.args.self.now in search rules

@@ -3,10 +3,10 @@ use Rattle.wiring.specs.Cables.{cabled}
 use Rattle.wiring.proofs.Table.{bare_sound, bare_lone}
 use Rattle.wiring.proofs.cables.CableList.new.Goals as goal
 
-pub invariant-of-result : goal.invariant-of-result
-invariant-of-result c =
-    let e = c.no-cables.ensures in
-    (omega arith, (ap length e, (∣ rw e (bare_sound 1 (omega arith) (omega arith)) ∣₁, tt)))
+pub invariant_of-result : goal.invariant_of-result
+invariant_of-result c =
+    let e = c.no_cables.ensures in
+    record { few = omega arith; size = ap length e; sound = ∣ rw e (bare_sound 1 (omega arith) (omega arith)) ∣₁ }
 
 pub returns : goal.returns
-returns c = ap (cabled 1) c.no-cables.ensures ∙ bare_lone
+returns c = ap (cabled 1) c.no_cables.ensures ∙ bare_lone

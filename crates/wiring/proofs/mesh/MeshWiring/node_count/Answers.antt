@@ -2,5 +2,5 @@ use Rattle.std.proofs.Common.{rules}
 use Rattle.wiring.specs.GridLemmas.{sides_fit}
 use Rattle.wiring.proofs.mesh.MeshWiring.node_count.Goals as goal
 
-pub overflow-mul-result : goal.overflow-mul-result
-overflow-mul-result c = search (rules, sides_fit)
+pub overflow_mul-result : goal.overflow_mul-result
+overflow_mul-result c = search (rules, sides_fit)
