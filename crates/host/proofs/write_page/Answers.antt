@@ -5,7 +5,7 @@ use Rattle.host.proofs.write_page.Goals as goal
 
 pub returns : goal.returns
 returns c =
-    let did = rw c.narrow.ensures at c.page-of-file.ensures in
+    let did = rw c.narrow.ensures at c.page_of_file.ensures in
     let page = landed _ _ _ _ _ _ c.new-tray.ensures.filled c.new-tray.ensures.rest did in
     record {
       answer = page.answered;

@@ -6,7 +6,7 @@ use Rattle.damaged.proofs.hash.hash_bytes.Goals as goal
 pub loop-byte-preserved : goal.loop-byte-preserved
 loop-byte-preserved c =
     hashes_on c.args.hash c.args.bytes.now c.loop-byte.byte-index _ _ _
-    c.hash-byte-running.ensures c.loop-byte.invariant c.loop-byte-test.true (search rules)
+    c.hash_byte-running.ensures c.loop-byte.invariant c.loop-byte-test.true (search rules)
 
 pub returns : goal.returns
 returns c = c.loop-byte.invariant ∙ ap (fold hashed_byte c.args.hash) (take_all _ _ c.loop-byte-test.false)

@@ -12,5 +12,5 @@ pub loop-node-preserved : goal.loop-node-preserved
 loop-node-preserved g c =
     let layout = g.W.Wiring.layout c.args.wall.now.wiring in
     more_pages layout.count (state_of layout c.args.wall.now.core) _ c.loop-node.node c.compose.result _ _
-    (subst (λ n. c.loop-node.node < n) c.node-count-node-end.ensures c.loop-node-test.true)
+    (subst (λ n. c.loop-node.node < n) c.node_count-node-end.ensures c.loop-node-test.true)
     c.loop-node.invariant c.compose.ensures

@@ -15,7 +15,7 @@ returns g c = record {
     empty = c.new-tray.ensures.filled;
     places = ap length c.new-tray.ensures.rest ∙ front_length _ c.places.result c.places.ensures.bound ∙ c.places.ensures.value;
     performs = c.perform-reply.ensures.performs;
-    text = IfOk-weaker c.call-lines.result _ _ (λ t e. e ∙ ap (step_lines c.args.call c.perform-reply.result) c.as-slice.ensures) c.call-lines.ensures;
+    text = IfOk-weaker c.call_lines.result _ _ (λ t e. e ∙ ap (step_lines c.args.call c.perform-reply.result) c.as_slice.ensures) c.call_lines.ensures;
   };
   wiring = c.perform-reply.ensures.wiring;
 }

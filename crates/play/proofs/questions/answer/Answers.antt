@@ -6,23 +6,23 @@ use Rattle.play.proofs.questions.answer.Goals as goal
 pub returns-in-Mode : goal.returns-in-Mode
 returns-in-Mode g c =
     IfOk-weaker c.answer_line.result _ _
-    (λ t e. asks_mode _ (g.met.W.Wiring.sound c.args.wall.now.wiring).few_nodes _ c.args.question _ _ c.in-Mode.node _ _ e c.in-Mode.is c.as-byte.ensures c.mode.ensures c.mode-in-Mode.ensures)
+    (λ t e. asks_mode _ (g.met.W.Wiring.sound c.args.wall.now.wiring).few_nodes _ c.args.question _ _ c.in-Mode.node _ _ e c.in-Mode.is c.as_byte.ensures c.mode.ensures c.mode-in-Mode.ensures)
     c.answer_line.ensures
 
 pub returns-in-Entry : goal.returns-in-Entry
 returns-in-Entry g c =
-    IfOk-weaker c.answer-line-in-Entry.result _ _
-    (λ t e. asks_entry _ (g.met.W.Wiring.sound c.args.wall.now.wiring).few_nodes _ c.args.question _ _ c.in-Entry.node c.in-Entry.destination _ _ _ e c.in-Entry.is c.as-byte-in-Entry.ensures c.as-byte-in-Entry-2.ensures c.entry.ensures c.entry-in-Entry.ensures)
-    c.answer-line-in-Entry.ensures
+    IfOk-weaker c.answer_line-in-Entry.result _ _
+    (λ t e. asks_entry _ (g.met.W.Wiring.sound c.args.wall.now.wiring).few_nodes _ c.args.question _ _ c.in-Entry.node c.in-Entry.destination _ _ _ e c.in-Entry.is c.as_byte-in-Entry.ensures c.as_byte-in-Entry-2.ensures c.entry.ensures c.entry-in-Entry.ensures)
+    c.answer_line-in-Entry.ensures
 
 pub returns-in-Marks : goal.returns-in-Marks
 returns-in-Marks g c =
-    IfOk-weaker c.answer-line-in-Marks.result _ _
-    (λ t e. asks_marks _ (g.met.W.Wiring.sound c.args.wall.now.wiring).few_nodes _ c.args.question _ _ c.in-Marks.node _ _ e c.in-Marks.is c.as-byte-in-Marks.ensures c.marks.ensures c.marks-in-Marks.ensures)
-    c.answer-line-in-Marks.ensures
+    IfOk-weaker c.answer_line-in-Marks.result _ _
+    (λ t e. asks_marks _ (g.met.W.Wiring.sound c.args.wall.now.wiring).few_nodes _ c.args.question _ _ c.in-Marks.node _ _ e c.in-Marks.is c.as_byte-in-Marks.ensures c.marks.ensures c.marks-in-Marks.ensures)
+    c.answer_line-in-Marks.ensures
 
 pub returns-in-Calm : goal.returns-in-Calm
 returns-in-Calm g c =
-    IfOk-weaker c.answer-line-in-Calm.result _ _
+    IfOk-weaker c.answer_line-in-Calm.result _ _
     (λ t e. asks_calm _ (g.met.W.Wiring.sound c.args.wall.now.wiring).few_nodes _ c.args.question _ _ c.calm.result e c.in-Calm.is c.calm.ensures refl)
-    c.answer-line-in-Calm.ensures
+    c.answer_line-in-Calm.ensures

@@ -9,6 +9,6 @@ loop-node-init g c = c.new-nodes.ensures.items ∙ sym (no_hands _)
 pub loop-node-preserved : goal.loop-node-preserved
 loop-node-preserved g c =
     let layout = g.W.Wiring.layout c.args.wall.now.wiring in
-    more_hands layout (state_of layout c.args.wall.now.core).nodes c.loop-node.node c.is-hand-up.result c.raised.result _ _
-    (subst (λ n. c.loop-node.node < n) c.node-count-node-end.ensures c.loop-node-test.true)
-    c.is-hand-up.ensures c.raised.ensures c.loop-node.invariant c.in-ok-add.ensures
+    more_hands layout (state_of layout c.args.wall.now.core).nodes c.loop-node.node c.is_hand_up.result c.raised.result _ _
+    (subst (λ n. c.loop-node.node < n) c.node_count-node-end.ensures c.loop-node-test.true)
+    c.is_hand_up.ensures c.raised.ensures c.loop-node.invariant c.in_ok-add.ensures

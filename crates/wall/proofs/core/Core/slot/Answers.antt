@@ -11,9 +11,9 @@ returns c =
     let w = wired c.args.self.now.board.count c.args.ends.now.at in
     let s = core_state c.args.self.now in
     record {
-      answer = c.begin-slot-answer.ensures.answer ∙ ap (λ (x : Slotted). x.answer) (sym (slot_begun w s));
-      after = slot_ended w s (nodes_view c.begin-slot-answer.new.self) _ _ _ _ _
-          c.begin-slot-answer.ensures.nodes c.tick.ensures.nodes c.send-home.ensures.packets c.following-self.ensures
-          (c.tick.ensures.count ∙ c.begin-slot-answer.ensures.count) c.send-home.ensures.last;
-      count = c.tick.ensures.count ∙ c.begin-slot-answer.ensures.count;
+      answer = c.begin_slot-answer.ensures.answer ∙ ap (λ (x : Slotted). x.answer) (sym (slot_begun w s));
+      after = slot_ended w s (nodes_view c.begin_slot-answer.new.self) _ _ _ _ _
+          c.begin_slot-answer.ensures.nodes c.tick.ensures.nodes c.send_home.ensures.packets c.following-self.ensures
+          (c.tick.ensures.count ∙ c.begin_slot-answer.ensures.count) c.send_home.ensures.last;
+      count = c.tick.ensures.count ∙ c.begin_slot-answer.ensures.count;
     }
