@@ -23,7 +23,7 @@ fn next_bytes(heap: Global, input: &mut BufReader<Stdin>) -> io::Result<Option<V
 /// Prints that a line cannot be read, and gives the error that ends the run.
 pub fn unreadable(rt: &HostRuntime, number: u32, line: &[u8]) -> anyhow::Error {
     match say_unreadable(rt, number, line) {
-        Ok(()) => "a line cannot be read".into(),
+        Ok(()) => anyhow!("a line cannot be read"),
         Err(error) => error.into(),
     }
 }
