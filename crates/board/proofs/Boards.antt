@@ -1,9 +1,9 @@
 -- Whole boards: what a loop over all records, or one that gathers from them, comes to.
-use Rattle.std.proofs.Common.{◌≡◌, ℕ, zero, suc, ◌<◌, ◌≤◌, Bool, true, false, ◌⊎◌, List, [], ◌∷◌, map, length, get_or, take, replicate, sym, refl, ap, ◌∙◌, subst, inl, inr, arith}
+use Rattle.std.proofs.Common.{◌≡◌, ℕ, ◌<◌, ◌≤◌, false, ◌⊎◌, List, [], map, length, get_or, take, replicate, sym, ap, ◌∙◌, inl, inr, arith}
 use mathlib.Core.Path.{fun_ext}
 use lib.ListN
 use lib.ListN.{length-map, get_or-eq_default}
-use Rattle.std.proofs.lemmas.List.{length-take-le, get_or-replicate, get_or_past, get_or_default, get_or-map}
+use Rattle.std.proofs.lemmas.List.{length-take-le, get_or-replicate, get_or_past}
 use Rattle.std.proofs.lemmas.List.FromFn.{fill_by_all}
 use Rattle.std.proofs.lemmas.Bool.{cases_lt}
 use Rattle.rules.specs.declared.Mark.{Mark}
@@ -13,7 +13,6 @@ use Rattle.rules.specs.State as rules
 use Rattle.rules.proofs.Views.{view_table}
 use Rattle.flood.specs.View.{marks_view}
 use Rattle.board.specs.declared.types.Board.{Board}
-use Rattle.board.specs.declared.types.Node.{Node}
 use Rattle.board.specs.View.{node_view, nodes_view}
 use Rattle.board.proofs.Records.{no_node, no_node_view, node_read}
 

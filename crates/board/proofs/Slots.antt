@@ -1,18 +1,16 @@
 -- What a slot does to one record.
-use Rattle.std.proofs.Common.{◌≡◌, ℕ, zero, suc, ◌-◌, ◌<◌, ◌≤◌, Bool, true, false, List, [], ◌∷◌, map, length, get_or, take, set, replicate, Some, None, sym, refl, ap, ◌∙◌, arith}
+use Rattle.std.proofs.Common.{◌≡◌, ℕ, zero, suc, ◌-◌, ◌<◌, ◌≤◌, Bool, true, false, List, [], ◌∷◌, map, take, set, replicate, Some, None, refl, ap, ◌∙◌, arith}
 use Rattle.std.proofs.lemmas.List.{take-replicate, map-set}
 use Rattle.wiring.specs.Layout.{Layout}
-use Rattle.rules.specs.declared.Mode.{Mode}
 use Rattle.rules.specs.declared.Mode.TheVariants.{Recovering, Serving}
 use Rattle.rules.specs.State as rules
 use Rattle.rules.specs.Flood as flood
 use Rattle.rules.specs.declared.Mark.{Mark}
 use Rattle.rules.specs.Root.{distance_in, root_mark, enlisted}
-use Rattle.rules.specs.Slot.{tick_mode, informed}
+use Rattle.rules.specs.Slot.{tick_mode}
 use Rattle.board.specs.declared.types.Entry.{Entry}
-use Rattle.board.specs.declared.types.Entry.TheVariants.{Nothing, Leads}
-use Rattle.board.specs.declared.types.Node.{Node}
-use Rattle.board.specs.View.{entry_view, node_view, is_joined, rooted_node}
+use Rattle.board.specs.declared.types.Entry.TheVariants.{Nothing}
+use Rattle.board.specs.View.{entry_view, is_joined, rooted_node}
 use Rattle.board.proofs.Records.{take_set_in}
 
 pub tick_last : (root left : ℕ) → left ≤ 1 → tick_mode (Recovering root left) ≡ Serving root

@@ -1,5 +1,5 @@
 -- What the records of a board stand for: the nodes of a wall's state.
-use Rattle.std.specs.Prelude.{◌≡◌, ℕ, Bool, true, false, List, [], map, take, Some, None}
+use Rattle.std.specs.Prelude.{ℕ, Bool, true, false, List, [], map, take, Some, None}
 use Rattle.wiring.specs.Layout.{Layout}
 use Rattle.rules.specs.State as rules
 use Rattle.rules.specs.Root.{distance, enlisted}

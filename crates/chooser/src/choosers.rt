@@ -18,8 +18,8 @@ pub trait Chooser {
     /// A port of the offer, or 0 if it is empty.
     ///
     /// ```
-    /// check_eq(chooser.pick(sides), 1)?;
-    /// check_eq(chooser.pick(PortSet::empty()), 0)?;
+    /// assert_eq!(rt; chooser.pick(sides), 1);
+    /// assert_eq!(rt; chooser.pick(PortSet::empty()), 0);
     /// ```
     fn pick(&mut self, offer: PortSet) -> u8
         ensures { picks self.old offer result self.new };
@@ -35,8 +35,8 @@ pub trait Chooser {
 ///
 /// ```
 /// let mut chooser = LowestPort::new();
-/// check_eq(chooser.pick(sides), 1)?;
-/// check_eq(chooser.pick(sides), 1)?;
+/// assert_eq!(rt; chooser.pick(sides), 1);
+/// assert_eq!(rt; chooser.pick(sides), 1);
 /// ```
 #[derive(Clone, Copy, PartialEq, Eq, Debug)]
 pub struct LowestPort;
@@ -71,10 +71,10 @@ impl Chooser for LowestPort {
 ///
 /// ```
 /// let mut chooser = RoundRobin::new();
-/// check_eq(chooser.pick(sides), 1)?;
-/// check_eq(chooser.pick(PortSet::empty()), 0)?;
-/// check_eq(chooser.pick(sides), 3)?;
-/// check_eq(chooser.pick(sides), 1)?;
+/// assert_eq!(rt; chooser.pick(sides), 1);
+/// assert_eq!(rt; chooser.pick(PortSet::empty()), 0);
+/// assert_eq!(rt; chooser.pick(sides), 3);
+/// assert_eq!(rt; chooser.pick(sides), 1);
 /// ```
 #[derive(Clone, Copy, PartialEq, Eq, Debug)]
 pub struct RoundRobin {

@@ -19,7 +19,7 @@ impl PortSet {
     /// The set without any port.
     ///
     /// ```
-    /// check_eq(sides.without(3), PortSet::empty().with(1))?;
+    /// assert_eq!(rt; sides.without(3), PortSet::empty().with(1));
     /// ```
     pub fn empty() -> PortSet
         ensures { result ≡ ports_where (λ _. false) }
@@ -35,7 +35,7 @@ impl PortSet {
     /// The set of the ports that are marked `true`, port by port.
     ///
     /// ```
-    /// check_eq(sides, PortSet::from_ports([false, true, false, true]))?;
+    /// assert_eq!(rt; sides, PortSet::from_ports([false, true, false, true]));
     /// ```
     pub fn from_ports(ports: [bool; 4]) -> PortSet
         ensures { result ≡ ports_where (λ p. slice_index_or ports p false) }
@@ -67,7 +67,7 @@ impl PortSet {
     /// The set with `port` taken out.
     ///
     /// ```
-    /// check_eq(sides.without(3), PortSet::empty().with(1))?;
+    /// assert_eq!(rt; sides.without(3), PortSet::empty().with(1));
     /// ```
     pub fn without(self, port: u8) -> PortSet
         ensures { result ≡ ports_where (λ p. has self p && not (p == port)) }
@@ -83,7 +83,7 @@ impl PortSet {
     /// Whether `port` is in the set; past port 3 none is.
     ///
     /// ```
-    /// check(sides.contains(3) && !sides.contains(4))?;
+    /// assert!(rt; sides.contains(3) && !sides.contains(4));
     /// ```
     pub fn contains(self, port: u8) -> bool
         ensures { result ≡ has self port }
@@ -100,7 +100,7 @@ impl PortSet {
     /// Whether no port is in the set.
     ///
     /// ```
-    /// check(!sides.is_empty() && sides.len() == 2 && sides.bits() == 10)?;
+    /// assert!(rt; !sides.is_empty() && sides.len() == 2 && sides.bits() == 10);
     /// ```
     pub fn is_empty(self) -> bool
         ensures { result ≡ vacant self }
@@ -111,7 +111,7 @@ impl PortSet {
     /// How many ports are in the set.
     ///
     /// ```
-    /// check(!sides.is_empty() && sides.len() == 2 && sides.bits() == 10)?;
+    /// assert!(rt; !sides.is_empty() && sides.len() == 2 && sides.bits() == 10);
     /// ```
     pub fn len(self) -> u8
         ensures { result ≡ how_many self }
@@ -122,7 +122,7 @@ impl PortSet {
     /// The set as a byte: bit p for port p.
     ///
     /// ```
-    /// check(!sides.is_empty() && sides.len() == 2 && sides.bits() == 10)?;
+    /// assert!(rt; !sides.is_empty() && sides.len() == 2 && sides.bits() == 10);
     /// ```
     pub fn bits(self) -> u8
         ensures { result ≡ bits_of self }

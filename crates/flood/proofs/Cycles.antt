@@ -1,8 +1,8 @@
 -- The loop over cycles: what is left of a broadcast, cycle by cycle.
-use Rattle.std.proofs.Common.{◌≡◌, ℕ, zero, suc, ◌+◌, ◌-◌, ◌<◌, ◌≤◌, Bool, true, false, cond, ◌||◌, eqb, List, sym, refl, ap, ◌∙◌, subst, ap₂, add-one, arith}
+use Rattle.std.proofs.Common.{◌≡◌, ℕ, zero, suc, ◌+◌, ◌-◌, ◌<◌, Bool, true, false, cond, ◌||◌, eqb, List, sym, refl, ap, ◌∙◌, ap₂, add-one, arith}
 use Rattle.wiring.specs.Layout.{Layout}
 use Rattle.rules.specs.Ports.{table}
-use Rattle.rules.specs.Flood.{Marks, Cell, waiting, deaf, cycle, reached, Spread, spread_from, spread}
+use Rattle.rules.specs.Flood.{Marks, Cell, waiting, deaf, cycle, reached, spread_from, spread}
 
 module _ (layout : Layout) (marks : Marks) (owner : ℕ) where
   pub spread_begins : (ignores : ℕ → Bool) (cells : List Cell) → cells ≡ table layout.count (λ n. cond (eqb n owner || ignores n) deaf waiting) →

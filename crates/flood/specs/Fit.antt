@@ -1,5 +1,5 @@
 -- Far ends that a wall of at most 64 nodes can have.
-use Rattle.std.specs.Prelude.{Bool, true, false, ◌&&◌, List, [], ◌∷◌, nat_lt}
+use Rattle.std.specs.Prelude.{Bool, true, ◌&&◌, List, [], ◌∷◌, nat_lt}
 use Rattle.flood.specs.declared.types.FarEnd.{FarEnd}
 use Rattle.flood.specs.declared.types.FarEnd.TheVariants.{Nowhere, To}
 

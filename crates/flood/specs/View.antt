@@ -1,5 +1,5 @@
 -- What the code's arrays stand for in the rules.
-use Rattle.std.specs.Prelude.{ℕ, ◌+◌, ◌*◌, Bool, true, false, cond, ◌&&◌, List, [], map, take, Some, None, Option, ◌==◌, nat_lt, slice_index_or}
+use Rattle.std.specs.Prelude.{ℕ, ◌+◌, ◌*◌, Bool, false, cond, ◌&&◌, List, [], map, take, Some, None, Option, ◌==◌, nat_lt, slice_index_or}
 use Rattle.wiring.specs.Layout.{Layout}
 use Rattle.rules.specs.declared.Mark.{Mark}
 use Rattle.rules.specs.declared.Mark.TheVariants.{Unmarked}

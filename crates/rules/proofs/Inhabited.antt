@@ -8,7 +8,7 @@ use Rattle.rules.specs.Ports.{ports_where, some_port, without, table}
 use Rattle.rules.specs.State.{State, fresh, power_up}
 use Rattle.rules.specs.Flood.{all_up, passes_on, sends, gets, next_cell, cycle, reached, spread_from, spread}
 use Rattle.rules.specs.Root.{distances, root_mark, enlisted, rooted}
-use Rattle.rules.specs.Slot.{act_of, broadcast, informed, heard, tick_mode, tick, ends_recovery, sent_home, slot_end, spoken, acted, slot}
+use Rattle.rules.specs.Slot.{broadcast, informed, heard, tick_mode, ends_recovery, sent_home, slot_end, spoken, acted, slot}
 use Rattle.rules.specs.Calls.{post_refused, after_post}
 use Rattle.rules.specs.Step.{turn, permitted, stands_at, taken, far_port_empty, offered, crossing, offer_for, fate, apply, take_one, sweep, step_with, after_step}
 use Rattle.rules.specs.Runs.{slot_call, post, step, slotted, numbered, stepped, slots, posts, steps, Event, Run, ends, goes}

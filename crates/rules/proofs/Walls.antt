@@ -9,7 +9,7 @@ use Rattle.rules.specs.Ports.{ports_where, some_port, without, table}
 use Rattle.rules.specs.State.{Node, State, node_of, fresh, power_up}
 use Rattle.rules.specs.Flood.{all_up, passes_on, sends, gets, next_cell, cycle, reached, spread_from, spread}
 use Rattle.rules.specs.Root.{distances, root_mark, enlisted, rooted}
-use Rattle.rules.specs.Slot.{act_of, broadcast, informed, heard, tick_mode, tick, ends_recovery, sent_home, slot_end, spoken, acted, slot}
+use Rattle.rules.specs.Slot.{broadcast, informed, heard, tick_mode, ends_recovery, sent_home, slot_end, spoken, acted, slot}
 use Rattle.rules.specs.Calls.{cut_refused, cut_end, changed, with_nodes, after_cut, hand_refused, raised, after_hand, post_refused, after_post}
 use Rattle.rules.specs.Step.{turn, permitted, stands_at, taken, far_port_empty, offered, crossing, offer_for, fate, apply, take_one, sweep, step_with, after_step}
 use Rattle.rules.specs.Promise.{Recovers, Calm}

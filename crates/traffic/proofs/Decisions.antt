@@ -16,8 +16,6 @@ use Rattle.board.specs.View.{entry_view}
 use Rattle.traffic.specs.declared.types.Fate as code
 use Rattle.traffic.specs.declared.types.Fate.TheVariants.{Waits, Delivered, Returned}
 use Rattle.traffic.specs.Choosing.{offer_set, fate_view, settles, led_by, landing, LandsInside, Asked, Crossed, Decided}
-use Rattle.traffic.specs.declared.types.Occupancy.{Occupancy}
-use Rattle.traffic.specs.Occupied.{counted, Counts}
 use Rattle.traffic.specs.Offers.{port_offered}
 
 -- The far end of a port

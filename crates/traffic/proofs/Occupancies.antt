@@ -7,7 +7,7 @@ use Rattle.rules.specs.declared.Standing.{Standing}
 use Rattle.rules.specs.declared.Standing.TheVariants.{Home, At}
 use Rattle.rules.specs.Step.{stands_at, taken}
 use Rattle.traffic.specs.Inside.{Inside, port_of}
-use Rattle.traffic.specs.Occupied.{one_at, standing_at, counted, Counts, Room, CountedIn, Arrives}
+use Rattle.traffic.specs.Occupied.{one_at, standing_at, Counts, Room, CountedIn, Arrives}
 use Rattle.traffic.specs.declared.types.Occupancy.{Occupancy}
 
 -- One packet

@@ -1,5 +1,5 @@
 -- The places of a flight: how many packets stand in them, and that they all stand inside the wall.
-use Rattle.std.proofs.Common.{◌≡◌, ℕ, zero, suc, ◌<◌, List, [], ◌∷◌, length, get_or, set, replicate, arith, lit<}
+use Rattle.std.proofs.Common.{◌≡◌, ℕ, zero, suc, List, [], ◌∷◌, length, get_or, set, replicate, arith, lit<}
 use Rattle.rules.specs.declared.Packet.{Packet}
 use Rattle.std.proofs.lemmas.List.{length-take-le}
 use Rattle.traffic.specs.Inside.{Inside, nowhere}

@@ -9,7 +9,7 @@ impl TrayFull {
     /// The refusal's number.
     ///
     /// ```
-    /// check_eq(TrayFull.number(), 15)?;
+    /// assert_eq!(rt; TrayFull.number(), 15);
     /// ```
     pub fn number(self) -> u8
         ensures { result ≡ tray_full_number }
@@ -36,7 +36,7 @@ impl<'a, T: Copy> Tray<'a, T> {
     /// Puts `x` behind what is filled. A full tray refuses it and stays as it is.
     ///
     /// ```
-    /// check_eq(tray.put(7), Ok(()))?;
+    /// assert_eq!(rt; tray.put(7), Ok(()));
     /// ```
     pub fn put(&mut self, x: T) -> Result<(), TrayFull>
         ensures { AllOrNone (x ∷ []) self.old self.new result }
@@ -55,7 +55,7 @@ impl<'a, T: Copy> Tray<'a, T> {
     /// stays as it is.
     ///
     /// ```
-    /// check_eq(tray.put_all(&[1, 2]), Ok(()))?;
+    /// assert_eq!(rt; tray.put_all(&[1, 2]), Ok(()));
     /// ```
     pub fn put_all(&mut self, xs: &[T]) -> Result<(), TrayFull>
         ensures { AllOrNone xs.now self.old self.new result }
@@ -73,7 +73,7 @@ impl<'a, T: Copy> Tray<'a, T> {
     /// How many places are free: a put of so many elements, or fewer, is accepted.
     ///
     /// ```
-    /// check_eq(tray.free(), 1)?;
+    /// assert_eq!(rt; tray.free(), 1);
     /// ```
     pub fn free(&self) -> usize
         ensures { result ≡ length (rest self.now) }
@@ -85,7 +85,7 @@ impl<'a, T: Copy> Tray<'a, T> {
     /// How many places are in use.
     ///
     /// ```
-    /// check_eq(tray.used(), 3)?;
+    /// assert_eq!(rt; tray.used(), 3);
     /// ```
     pub fn used(&self) -> usize
         ensures { result ≡ length (filled self.now) }
@@ -96,8 +96,8 @@ impl<'a, T: Copy> Tray<'a, T> {
     /// The element that was put in at place `i`, counted from 0; nothing at a place that is not in use.
     ///
     /// ```
-    /// check_eq(tray.get(2), Some(2))?;
-    /// check_eq(tray.get(3), None)?;
+    /// assert_eq!(rt; tray.get(2), Some(2));
+    /// assert_eq!(rt; tray.get(3), None);
     /// ```
     pub fn get(&self, i: usize) -> Option<T>
         ensures { result ≡ slice_get (filled self.now) i }
@@ -108,7 +108,7 @@ impl<'a, T: Copy> Tray<'a, T> {
     /// What was put in, in order.
     ///
     /// ```
-    /// check_eq(tray.as_slice(), &[7, 1, 2])?;
+    /// assert_eq!(rt; tray.as_slice(), [7, 1, 2].as_slice());
     /// ```
     pub fn as_slice(&self) -> &[T]
         ensures { result.now ≡ filled self.now }

@@ -41,7 +41,7 @@ mod tests {
         assert_eq!(rt; tray.free(), 1);
         assert_eq!(rt; tray.get(2), Some(2));
         assert_eq!(rt; tray.get(3), None);
-        assert_eq!(rt; tray.as_slice(), &[7, 1, 2]);
+        assert_eq!(rt; tray.as_slice(), [7, 1, 2].as_slice());
     }
 
     #[test]

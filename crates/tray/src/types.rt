@@ -6,7 +6,7 @@ ghost use Rattle.std.specs.Prelude.{◌≤◌, length};
 /// index 0 and place 0, and its number is 15.
 ///
 /// ```
-/// check_eq(tray.put_all(&[1, 2, 3, 4]), Err(TrayFull))?;
+/// assert_eq!(rt; tray.put_all(&[1, 2, 3, 4]), Err(TrayFull));
 /// ```
 #[derive(Clone, Copy, PartialEq, Eq, Debug)]
 pub struct TrayFull;
@@ -16,9 +16,9 @@ pub struct TrayFull;
 /// ```
 /// let mut bytes = [9u8; 4];
 /// let mut tray = Tray::new(&mut bytes);
-/// check_eq(tray.put(7), Ok(()))?;
-/// check_eq(tray.put_all(&[1, 2]), Ok(()))?;
-/// check_eq(bytes, [7, 1, 2, 9])?;
+/// assert_eq!(rt; tray.put(7), Ok(()));
+/// assert_eq!(rt; tray.put_all(&[1, 2]), Ok(()));
+/// assert_eq!(rt; bytes, [7, 1, 2, 9]);
 /// ```
 #[derive(Drop)]
 pub struct Tray<'a, T: Copy> {

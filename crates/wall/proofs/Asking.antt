@@ -1,8 +1,7 @@
 -- Whether a wall is calm, from what is read node by node.
-use Rattle.std.proofs.Common.{◌≡◌, ℕ, ◌+◌, ◌<◌, ◌≤◌, Bool, true, false, ◌||◌, ◌⊎◌, Decides, sym, refl, ap, ◌∙◌, subst, inl, inr, arith, below_more}
+use Rattle.std.proofs.Common.{◌≡◌, ℕ, ◌+◌, ◌<◌, Bool, true, false, ◌||◌, ◌⊎◌, Decides, refl, ap, ◌∙◌, subst, inl, inr, arith, below_more}
 use Rattle.std.proofs.lemmas.Bool.{or_cases, or_parts, both_ways}
 use Rattle.wiring.specs.Layout.{Layout}
-use Rattle.rules.specs.declared.Mode.{Mode}
 use Rattle.rules.specs.State.{Node, State, node_of}
 use Rattle.rules.specs.Promise.{Recovers, Calm}
 use Rattle.board.specs.View.{nodes_at}

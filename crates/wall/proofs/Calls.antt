@@ -10,7 +10,7 @@ use Rattle.rules.specs.Ports.{Ports, table}
 use Rattle.rules.specs.State.{Node, State, fresh, power_up}
 use Rattle.rules.specs.Slot.{slot}
 use Rattle.rules.specs.Calls.{refuse_if, cut_refused, after_cut, cut_end, changed, raised, hand_refused, after_hand, with_nodes}
-use Rattle.rules.specs.Runs.{Call, Reply, refused, done, slotted, stepped, cut, hand, slot_call, step, Does, cuts, hands, slots, step_refused, steps, Steps}
+use Rattle.rules.specs.Runs.{Call, Reply, refused, slotted, stepped, cut, hand, slot_call, step, Does, cuts, hands, slots, step_refused, steps, Steps}
 use Rattle.rules.proofs.CallCases.{cut_does}
 use Rattle.flood.specs.declared.types.FarEnd.{FarEnd}
 use Rattle.flood.specs.View.{wired}

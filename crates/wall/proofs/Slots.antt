@@ -1,12 +1,12 @@
 -- A slot as the plain part of a wall does it: the broadcast, the packets that go home, the tick.
-use Rattle.std.proofs.Common.{◌≡◌, ℕ, ◌+◌, ◌%◌, List, map, sym, refl, ap, ◌∙◌}
+use Rattle.std.proofs.Common.{◌≡◌, ℕ, ◌+◌, ◌%◌, List, map, sym, refl, ap}
 use Rattle.wiring.specs.Layout.{Layout}
 use Rattle.rules.specs.declared.Act.{Act}
 use Rattle.rules.specs.declared.Act.TheVariants.{Silent, Root, Member}
 use Rattle.rules.specs.declared.Packet.{Packet}
 use Rattle.rules.specs.State.{Node, State, node_of}
 use Rattle.rules.specs.Slot.{act_of, tick, sent_home, slot_end, Slotted, spoken, acted, slot}
-use Rattle.board.specs.Begun.{Begun, told, begun_by, begun}
+use Rattle.board.specs.Begun.{told, begun_by, begun}
 
 by_act : (layout : Layout) (s : State) (act : Act) → acted layout s act ≡
     record { answer = (begun_by layout s.nodes s.owner act).answer; after = slot_end layout s (begun_by layout s.nodes s.owner act).nodes }

@@ -1,4 +1,4 @@
-use Rattle.std.proofs.Common.{◌≡◌, refl, ◌∙◌}
+use Rattle.std.proofs.Common.{refl}
 use Rattle.rules.specs.State.{fresh}
 use Rattle.board.proofs.Slots.{empty_row}
 use Rattle.board.proofs.made.new_node.Goals as goal

@@ -1,8 +1,8 @@
 use Rattle.std.proofs.Common.{sym, ap, ◌∙◌}
 use Rattle.rules.specs.State as rules
-use Rattle.flood.specs.View.{wired, cell_view, cells_view}
+use Rattle.flood.specs.View.{wired, cells_view}
 use Rattle.flood.proofs.Arrays.{cell_read}
-use Rattle.board.specs.View.{node_view, nodes_view, is_joined}
+use Rattle.board.specs.View.{nodes_view, is_joined}
 use Rattle.board.proofs.Records.{node_read}
 use Rattle.board.proofs.Slots.{empty_row, made, rooted_other, rooted_joined}
 use Rattle.board.proofs.rows.enlisted_record.Goals as goal

@@ -1,4 +1,4 @@
-use Rattle.std.proofs.Common.{◌≡◌, List, map, take, set, sym, refl, ap, ◌∙◌}
+use Rattle.std.proofs.Common.{List, map, take, set, sym, ap, ◌∙◌}
 use Rattle.rules.specs.State as rules
 use Rattle.rules.specs.Slot.{informed}
 use Rattle.flood.specs.View.{cell_view}

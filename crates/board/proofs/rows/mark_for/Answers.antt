@@ -1,4 +1,4 @@
-use Rattle.std.proofs.Common.{sym, refl, ap, ◌∙◌, ap₂, arith}
+use Rattle.std.proofs.Common.{sym, ap, ◌∙◌, arith}
 use Rattle.board.proofs.Marking.{mark_dead, mark_nowhere, mark_far}
 use Rattle.board.proofs.Records.{live_read}
 use Rattle.flood.proofs.Arrays.{far_read}

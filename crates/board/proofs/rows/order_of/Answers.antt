@@ -1,4 +1,4 @@
-use Rattle.std.proofs.Common.{sym, refl, ap, ◌∙◌}
+use Rattle.std.proofs.Common.{sym, ap, ◌∙◌}
 use Rattle.flood.specs.View.{cell_view, cells_view}
 use Rattle.flood.proofs.Arrays.{cell_read, cell_past}
 use Rattle.board.proofs.Marking.{order_waiting, order_deaf, order_wrote}

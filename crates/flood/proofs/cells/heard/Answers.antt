@@ -1,4 +1,4 @@
-use Rattle.std.proofs.Common.{◌≡◌, sym, ap, ◌∙◌}
+use Rattle.std.proofs.Common.{sym, ap, ◌∙◌}
 use Rattle.flood.specs.View.{cell_view}
 use Rattle.flood.proofs.Arrays.{cell_read, next_deaf, next_wrote, some_flag, no_flag}
 use Rattle.flood.proofs.cells.heard.Goals as goal

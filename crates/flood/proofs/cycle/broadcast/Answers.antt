@@ -1,4 +1,4 @@
-use Rattle.std.proofs.Common.{◌≡◌, ℕ, ◌+◌, ◌-◌, ◌<◌, ◌≤◌, false, get_or, sym, ap, ◌∙◌, arith}
+use Rattle.std.proofs.Common.{◌≡◌, ℕ, ◌+◌, ◌-◌, ◌<◌, false, get_or, sym, ap, ◌∙◌, arith}
 use Rattle.rules.specs.Flood.{spread_from}
 use Rattle.flood.specs.View.{wired, marks_view, cells_view}
 use Rattle.flood.proofs.Cycles.{spread_begins, spread_ends, spread_stops, spread_goes}

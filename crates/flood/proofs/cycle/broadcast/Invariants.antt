@@ -1,4 +1,4 @@
-use Rattle.std.proofs.Common.{◌≡◌, ℕ, ◌-◌, ◌<◌, ◌≤◌, false, length, get_or}
+use Rattle.std.proofs.Common.{◌≡◌, ◌-◌, ◌≤◌, false, length, get_or}
 use Rattle.rules.specs.Flood.{spread, spread_from}
 use Rattle.flood.specs.View.{wired, marks_view, cells_view}
 use Rattle.flood.proofs.cycle.broadcast.Given as goal

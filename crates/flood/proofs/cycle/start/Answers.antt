@@ -1,4 +1,4 @@
-use Rattle.std.proofs.Common.{◌≡◌, ◌<◌, ◌≤◌, length, refl, ◌∙◌, arith, length-set}
+use Rattle.std.proofs.Common.{◌<◌, ◌≤◌, length, refl, ◌∙◌, arith, length-set}
 use Rattle.rules.specs.Flood.{waiting}
 use Rattle.rules.proofs.Views.{view_table, fill_more}
 use Rattle.flood.specs.declared.types.Cell.TheVariants.{Waiting}

@@ -1,4 +1,4 @@
-use Rattle.std.proofs.Common.{◌≡◌, [], ◌++◌, string_bytes, ap, ◌∙◌}
+use Rattle.std.proofs.Common.{[], ◌++◌, string_bytes, ap, ◌∙◌}
 use Rattle.reply.specs.Text.{hand_item}
 use Rattle.reply.proofs.Rows.{rows_more, rows_all}
 use Rattle.reply.proofs.lines.hand_items.Goals as goal

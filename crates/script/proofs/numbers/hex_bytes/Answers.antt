@@ -1,4 +1,4 @@
-use Rattle.std.proofs.Common.{sym, subst, arith}
+use Rattle.std.proofs.Common.{sym, subst}
 use Rattle.script.proofs.Hex.{Sofar, more, bad_digit, odd, all_read}
 use Rattle.script.proofs.numbers.hex_bytes.Goals as goal
 

@@ -1,4 +1,4 @@
-use Rattle.std.proofs.Common.{sym, refl, ◌∙◌, arith}
+use Rattle.std.proofs.Common.{sym, refl, arith}
 use Rattle.std.proofs.lemmas.Bool.{eqb-true, eqb-false}
 use Rattle.script.proofs.Decimal.{refused, no_digit, not_digit, more, too_large, all_read}
 use Rattle.script.proofs.numbers.number.Goals as goal

@@ -1,4 +1,4 @@
-use Rattle.std.proofs.Common.{◌≡◌, ℕ, ◌<◌, ◌≤◌, length, arith}
+use Rattle.std.proofs.Common.{◌≡◌, ℕ, ◌<◌, length, arith}
 use Rattle.rules.proofs.Views.{below_written}
 use Rattle.flood.specs.View.{wired, cells_view}
 use Rattle.board.specs.declared.types.Node.{Node}

@@ -1,4 +1,4 @@
-use Rattle.std.proofs.Common.{◌≡◌, ℕ, ◌<◌, ◌≤◌, get_or}
+use Rattle.std.proofs.Common.{◌≡◌, ℕ, ◌<◌, get_or}
 use Rattle.flood.specs.View.{wired, cells_view}
 use Rattle.board.specs.View.{node_view, nodes_view, rooted_node}
 use Rattle.board.proofs.Records.{no_node}

@@ -1,4 +1,4 @@
-use Rattle.std.proofs.Common.{◌≡◌, ℕ, ◌<◌, ◌≤◌, length, get_or, sym, refl, ap, ◌∙◌, ap₂, arith}
+use Rattle.std.proofs.Common.{◌≡◌, ℕ, ◌<◌, length, get_or, sym, ap, ◌∙◌, ap₂, arith}
 use Rattle.rules.specs.State as rules
 use Rattle.rules.specs.Flood as flood
 use Rattle.rules.specs.Slot.{informed, heard}

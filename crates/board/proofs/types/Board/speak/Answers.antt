@@ -1,7 +1,7 @@
-use Rattle.std.proofs.Common.{◌≡◌, ap, ◌∙◌}
+use Rattle.std.proofs.Common.{ap, ◌∙◌}
 use Rattle.rules.specs.Flood.{Spread}
 use Rattle.rules.specs.Slot.{heard}
-use Rattle.flood.specs.View.{wired, cells_view}
+use Rattle.flood.specs.View.{wired}
 use Rattle.board.specs.View.{nodes_view}
 use Rattle.board.proofs.Begins.{broadcast_is, heard_count}
 use Rattle.board.proofs.types.Board.speak.Goals as goal

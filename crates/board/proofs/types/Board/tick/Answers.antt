@@ -1,4 +1,4 @@
-use Rattle.std.proofs.Common.{◌≡◌, ℕ, ◌<◌, ◌≤◌, length, get_or, sym, refl, ap, ◌∙◌, arith}
+use Rattle.std.proofs.Common.{◌≡◌, ℕ, ◌<◌, length, get_or, sym, ap, ◌∙◌, arith}
 use Rattle.rules.specs.State as rules
 use Rattle.rules.specs.Slot.{tick}
 use Rattle.rules.proofs.Views.{below_written, rest_written}

@@ -1,4 +1,4 @@
-use Rattle.std.proofs.Common.{◌≡◌, ℕ, ◌/◌, ◌%◌, ◌<◌, length, get_or, refl, ◌∙◌, arith, length-set}
+use Rattle.std.proofs.Common.{◌≡◌, ℕ, ◌/◌, ◌%◌, ◌<◌, length, refl, ◌∙◌, arith, length-set}
 use Rattle.rules.proofs.Views.{below_written}
 use Rattle.flood.specs.declared.types.FarEnd.{FarEnd}
 use Rattle.flood.specs.declared.types.FarEnd.TheVariants.{Nowhere}

@@ -1,4 +1,4 @@
-use Rattle.std.proofs.Common.{◌≡◌, sym, subst}
+use Rattle.std.proofs.Common.{sym, subst}
 use Rattle.rules.specs.Promise.{Promised}
 use Rattle.rules.proofs.Promised.{promised}
 use Rattle.wall.proofs.Calls.{powered}

@@ -1,4 +1,4 @@
-use Rattle.std.proofs.Common.{◌≡◌, ◌<◌, ◌∙◌, arith}
+use Rattle.std.proofs.Common.{◌<◌, arith}
 use Rattle.wall.proofs.Asking.{rests_more, not_calm, is_calm}
 use Rattle.wall.proofs.wall.Wall.calm.Goals as goal
 
