@@ -4,7 +4,7 @@ use Rattle.std.proofs.lemmas.Bool.{cases_lt, le-leb, or_left, or_right}
 use Rattle.wiring.specs.Layout.{Layout}
 use Rattle.chooser.specs.declared.ports.PortSet.{PortSet}
 use Rattle.rules.specs.declared.Mark.{Mark}
-use Rattle.rules.specs.declared.Mode.{Mode as Node-mode}
+use Rattle.rules.specs.declared.Mode.{Mode as NodeMode}
 use Rattle.rules.specs.declared.Refusal.{Refusal}
 use Rattle.rules.specs.Promise as promise
 use Rattle.rules.specs.State.{State, Entry, node_of, entry_of}
@@ -42,7 +42,7 @@ module _ (layout : Layout) (few : layout.count ≤ 64) where
   -- The line of each question about a node.
 
   module _ (s : State) (question : Question) (answer : Answer) (text : List ℕ) where
-    pub asks_mode : (n a : ℕ) (r : Result Node-mode Refusal) → text ≡ answer_line (Mode n) answer → question ≡ Mode n → a ≡ min n 255 → r ≡ asked_of layout a (node_of s.nodes a).mode → answer ≡ mode_told r → Asks layout s question text
+    pub asks_mode : (n a : ℕ) (r : Result NodeMode Refusal) → text ≡ answer_line (Mode n) answer → question ≡ Mode n → a ≡ min n 255 → r ≡ asked_of layout a (node_of s.nodes a).mode → answer ≡ mode_told r → Asks layout s question text
     asks_mode n a r line is e f g =
         let same = f ∙ ap (λ m. asked_of layout m (node_of s.nodes m).mode) e ∙ asked_clamped (λ m. (node_of s.nodes m).mode) n in
         subst (λ q. Asks layout s q text) (sym is) (line ∙ ap (answer_line (Mode n)) (g ∙ ap mode_told same))

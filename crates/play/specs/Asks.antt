@@ -3,7 +3,7 @@ use Rattle.std.specs.Prelude.{◌≡◌, ℕ, zero, suc, Bool, true, false, cond
 use Rattle.wiring.specs.Layout.{Layout}
 use Rattle.chooser.specs.declared.ports.PortSet.{PortSet}
 use Rattle.rules.specs.declared.Mark.{Mark}
-use Rattle.rules.specs.declared.Mode.{Mode as Node-mode}
+use Rattle.rules.specs.declared.Mode.{Mode as NodeMode}
 use Rattle.rules.specs.declared.Refusal.{Refusal}
 use Rattle.rules.specs.State.{Node, State, node_of, entry_of}
 use Rattle.rules.specs.Promise as promise
@@ -19,7 +19,7 @@ abbrev pub answered : {T : Type 0} → (T → Answer) → Result T Refusal → A
 answered f (Ok x) = f x
 answered f (Err reason) = answer.Refused reason
 
-abbrev pub mode_told : Result Node-mode Refusal → Answer
+abbrev pub mode_told : Result NodeMode Refusal → Answer
 mode_told r = answered (λ m. answer.Mode m) r
 
 abbrev pub entry_told : Result (Option (PortSet × ℕ)) Refusal → Answer

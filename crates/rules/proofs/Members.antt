@@ -1,6 +1,6 @@
 -- What a list has, by its first element and the others.
 use Rattle.std.proofs.Common.{◌≡◌, zero, suc, ◌⊎◌, List, [], ◌∷◌, ◌++◌, refl, inl, inr, arith}
-use Rattle.std.specs.List.{ContainsAt as Has, AllByRecursion as All}
+use Rattle.std.specs.List.{ContainsAt as Has, AllByRecursion}
 
 module _ {X : Type 0} where
   pub has_none : (x : X) → Has [] x → ⊥
@@ -28,6 +28,6 @@ module _ {X : Type 0} where
       go again (inl e) = inl (0, omega arith, λ d. e)
       go again (inr k) = deeper (again k)
 
-  pub all_from_has : (P : X → Type 0) (xs : List X) → ((x : X) → Has xs x → P x) → All P xs
+  pub all_from_has : (P : X → Type 0) (xs : List X) → ((x : X) → Has xs x → P x) → AllByRecursion P xs
   all_from_has P [] f = tt
   all_from_has P (x ∷ xs) f = (f x (has_first x xs), all_from_has P xs (λ y h. f y (has_later x xs y h)))

@@ -1,7 +1,7 @@
 -- A step as a relation: what happens to each packet in turn, and what becomes of all of them.
 -- An induction over `Sweeps` is an induction over the packets of a step.
 use Rattle.std.proofs.Common.{◌≡◌, ℕ, ◌+◌, ◌<◌, Bool, true, false, not, ◌&&◌, eqb, ◌⊎◌, List, [], ◌∷◌, ◌++◌, length, Some, None, Option, sym, refl, ap, ◌∙◌, subst, inl, inr, append_assoc, append-nil, arith}
-use Rattle.std.specs.List.{ContainsAt as Has, AllByRecursion as All}
+use Rattle.std.specs.List.{ContainsAt as Has, AllByRecursion}
 use Rattle.std.proofs.lemmas.Bool.{both_ways, and_parts, and_from, not-true, not_from_false, cases_Bool, eqb-true, eqb-false, eq-eqb, ne_eqb}
 use Rattle.wiring.specs.Layout.{Layout, Sound}
 use Rattle.rules.specs.declared.Ending.TheVariants.{Delivered, Returned}
@@ -282,11 +282,11 @@ record Between (layout : Layout) (nodes : List Node) (old : List Packet) (before
 pub push_append : {X : Type 0} (xs : List X) (x : X) (ys : List X) → (xs ++ x ∷ []) ++ ys ≡ xs ++ x ∷ ys
 push_append xs x ys = append_assoc xs (x ∷ []) ys
 
-all_front : {X : Type 0} (P : X → Type 0) (xs ys : List X) → All P (xs ++ ys) → All P xs
+all_front : {X : Type 0} (P : X → Type 0) (xs ys : List X) → AllByRecursion P (xs ++ ys) → AllByRecursion P xs
 all_front P [] ys all = tt
 all_front P (x ∷ xs) ys all = (all.0, all_front P xs ys all.1)
 
-all_back : {X : Type 0} (P : X → Type 0) (xs ys : List X) → All P (xs ++ ys) → All P ys
+all_back : {X : Type 0} (P : X → Type 0) (xs ys : List X) → AllByRecursion P (xs ++ ys) → AllByRecursion P ys
 all_back P [] ys all = all
 all_back P (x ∷ xs) ys all = all_back P xs ys all.1
 
@@ -353,7 +353,7 @@ module _ (layout : Layout) (sound : Sound layout) (nodes : List Node) where
 
   -- What was asked before is part of what was asked in all.
   asked_before : (P : Ports × ℕ → Type 0) (old : List Packet) (picks : List ℕ) (mid : Middle) →
-      All P (sweep layout nodes old picks mid).asked → All P mid.asked
+      AllByRecursion P (sweep layout nodes old picks mid).asked → AllByRecursion P mid.asked
   unfolding sweep take_one
   asked_before P [] picks mid all = all
   asked_before P (x ∷ old) picks mid all =
@@ -363,7 +363,7 @@ module _ (layout : Layout) (sound : Sound layout) (nodes : List Node) where
       all_front P mid.asked (ask ∷ []) (rw (asked_grows f x ask mid) at (asked_before P old (later_picks picks) (take_one layout nodes x old (first_pick picks) mid) all))
 
   between : (old : List Packet) (picks : List ℕ) (mid : Middle) →
-      All InOffer (sweep layout nodes old picks mid).asked → Between layout nodes old mid (sweep layout nodes old picks mid)
+      AllByRecursion InOffer (sweep layout nodes old picks mid).asked → Between layout nodes old mid (sweep layout nodes old picks mid)
   unfolding sweep take_one
   between [] picks mid all = record {
     left = [];

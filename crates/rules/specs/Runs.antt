@@ -1,6 +1,6 @@
 -- The five calls as one relation, and runs of them.
 use Rattle.std.specs.Prelude.{◌≡◌, ℕ, ◌<◌, ◌≤◌, true, List, [], ◌∷◌, length, MatchOption}
-use Rattle.std.specs.List.{AllByRecursion as All}
+use Rattle.std.specs.List.{AllByRecursion}
 use Rattle.wiring.specs.Layout.{Layout}
 use Rattle.rules.specs.declared.Outcome.{Outcome}
 use Rattle.rules.specs.declared.Refusal.{Refusal}
@@ -42,7 +42,7 @@ pub record Steps (layout : Layout) (s : State) (counts : StepCounts) (outcomes :
   pub crossed_are : crossed ≡ (step_with layout s picks).crossed
   pub asked_are : asked ≡ (step_with layout s picks).asked
   pub after_is : after ≡ after_step s (step_with layout s picks)
-  pub in_offers : All InOffer asked
+  pub in_offers : AllByRecursion InOffer asked
 
 -- What one call answers and leaves behind: a refusal leaves everything as it stood.
 pub data Does (layout : Layout) (s : State) : Call → Reply → State → Type 0 where

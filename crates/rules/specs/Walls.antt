@@ -1,7 +1,7 @@
 -- Twelve worked walls: small walls with what the rules say of each, computed from the rules' own
 -- definitions.
 use Rattle.std.specs.Prelude.{◌≡◌, ℕ, zero, suc, Bool, true, false, cond, List, [], ◌∷◌, Some, None, Ok, Err, Result}
-use Rattle.std.specs.List.{AllByRecursion as All}
+use Rattle.std.specs.List.{AllByRecursion}
 use Rattle.wiring.specs.Layout.{Layout}
 use Rattle.wiring.specs.Grid.{grid}
 use Rattle.wiring.specs.Cables.{bare, cabled, lone}
@@ -64,7 +64,7 @@ lowest ports = cond (has ports 0) 0 (cond (has ports 1) 1 (cond (has ports 2) 2 
 
 -- Every pick of a step is the lowest port of its offer.
 abbrev pub Lowest : Middle → Type 0
-Lowest mid = All (λ ask. ask.1 ≡ lowest ask.0) mid.asked
+Lowest mid = AllByRecursion (λ ask. ask.1 ≡ lowest ask.0) mid.asked
 
 -- The triangle
 

@@ -1,6 +1,6 @@
 -- The chooser's answers in order, and that each lies in its offer.
 use Rattle.std.proofs.Common.{◌≡◌, ℕ, zero, suc, true, false, not, List, [], ◌∷◌, ◌++◌, refl, ap, ◌∙◌, subst}
-use Rattle.std.specs.List.{AllByRecursion as All}
+use Rattle.std.specs.List.{AllByRecursion}
 use Rattle.std.proofs.lemmas.Bool.{false≢true}
 use Rattle.std.proofs.lemmas.Bool.Decides.{when_true}
 use Rattle.chooser.specs.declared.ports.PortSet.{PortSet}
@@ -29,6 +29,6 @@ module _ {C : Type 0} (picks : C → PortSet → ℕ → C → Type 0) where
         let picked = when_true (picks a (offer_set ask.0) ask.1 b) ((ask.1 ≡ 0) × (b ≡ a)) some h in
         has_from_set ask.0 ask.1 (inside a b (offer_set ask.0) ask.1 picked (vacant_is ask.0 ∙ ap not some))
 
-    pub in_offers : (asked : List (Ports × ℕ)) (a b : C) → Answered picks asked a b → All InOffer asked
+    pub in_offers : (asked : List (Ports × ℕ)) (a b : C) → Answered picks asked a b → AllByRecursion InOffer asked
     in_offers [] a b h = tt
     in_offers (ask ∷ asked) a b h = (in_offer ask a h.0 h.1.0, in_offers asked h.0 b h.1.1)

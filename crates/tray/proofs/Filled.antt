@@ -10,16 +10,19 @@ use Rattle.tray.specs.Filled.{filled, rest, Puts, AllOrNone}
 module _ {T : Type 0} where
   -- the places in use and the free ones are all there are
   pub used_and_free : (t : Tray T) → t.used + length (rest t) ≡ length t.slots.now
+  unfolding rest
   used_and_free t = simp length-drop (omega arith)
 
   -- for the lender: its memory is what was put in, and what stands behind that
   pub memory_is : (t : Tray T) → t.slots.now ≡ filled t ++ rest t
+  unfolding filled rest
   memory_is t = sym (take-append-drop t.used t.slots.now)
 
   pub puts_none : (t : Tray T) → Puts [] t t
   puts_none t = record { filled_after = sym (append-nil (filled t)); rest_after = refl; lent_after = refl }
 
   pub puts_more : {xs ys : List T} {a b c : Tray T} → Puts xs a b → Puts ys b c → Puts (xs ++ ys) a c
+  unfolding rest
   puts_more {xs} {ys} {a} p q = record {
     filled_after = q.filled_after ∙ ap (λ (l : List T). l ++ ys) p.filled_after ∙ append_assoc (filled a) xs ys;
     rest_after = q.rest_after ∙ ap (drop (length ys)) p.rest_after ∙ simp (drop-drop, length-append) (ap (λ (n : ℕ). drop n a.slots.now) (omega arith));

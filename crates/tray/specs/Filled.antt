@@ -1,5 +1,5 @@
 -- What a tray holds, and what a put does to it.
-use Rattle.std.specs.Prelude.{◌≡◌, ℕ, ◌<◌, ◌≤◌, cond, List, ◌++◌, length, take, drop, Ok, Err, Option, Result, MatchOption, MatchResult, nat_le, slice_index_or}
+use Rattle.std.specs.Prelude.{◌≡◌, ℕ, cond, List, ◌++◌, length, take, drop, Ok, Err, Result, MatchResult, nat_le}
 use Rattle.tray.specs.declared.types.Tray.{Tray}
 use Rattle.tray.specs.declared.types.TrayFull.{TrayFull}
 
@@ -13,16 +13,12 @@ tray_full = record {}
 
 module _ {T : Type 0} where
   -- the elements that were put in, in order
-  abbrev pub filled : Tray T → List T
+  unfoldable pub filled : Tray T → List T
   filled t = take t.used t.slots.now
 
   -- what stands at the free places
-  abbrev pub rest : Tray T → List T
+  unfoldable pub rest : Tray T → List T
   rest t = drop t.used t.slots.now
-
-  -- what stands at place i of xs, counted from 0: nothing past their end
-  abbrev pub Element : List T → ℕ → Option T → Type 0
-  Element xs i r = MatchOption r (length xs ≤ i) (λ x. (i < length xs) × (x ≡ slice_index_or xs i x))
 
   -- xs stand behind what was filled before, over the first free places of the same memory; the others are as they were
   pub record Puts (xs : List T) (before after : Tray T) : Type 0 where

@@ -18,6 +18,7 @@ impl TrayFull {
     }
 }
 
+#[tactic(auto, unfolding(crate::specs::Filled::filled, crate::specs::Filled::rest))]
 impl<'a, T: Copy> Tray<'a, T> {
     /// A tray over `slots`, with nothing in use. While it stands, the memory is its own; the lender then finds in
     /// it what was put in, and behind that what stood there before.

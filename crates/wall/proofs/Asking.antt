@@ -18,6 +18,7 @@ module _ (layout : Layout) (core : Core) where
 
   pub rests_more : (i : ℕ) (held : Node) (recovers : Bool) → held ≡ node_of (nodes_at layout.count core.board.nodes) i → Decides recovers (Recovers held.mode) →
       (held.hand || recovers) ≡ false → ((k : ℕ) → k < i → Rests (node_of s.nodes k)) → (k : ℕ) → k < i + 1 → Rests (node_of s.nodes k)
+  unfolding state_of
   rests_more i held recovers is decides none below =
       let parts = or_parts held.hand recovers none in
       below_more (λ k. Rests (node_of s.nodes k)) i below
@@ -25,6 +26,7 @@ module _ (layout : Layout) (core : Core) where
 
   pub not_calm : (i : ℕ) (held : Node) (recovers : Bool) → i < layout.count → held ≡ node_of (nodes_at layout.count core.board.nodes) i → Decides recovers (Recovers held.mode) →
       (held.hand || recovers) ≡ true → Decides false (Calm layout s)
+  unfolding state_of
   not_calm i held recovers below is decides some = ((λ e. let z : ◌≡◌ {A = ℕ} 0 1 = cc in absurd (omega arith)), λ calm. absurd (go calm (or_cases held.hand recovers some)))
     where
       go : Calm layout s → (held.hand ≡ true) ⊎ (recovers ≡ true) → ⊥

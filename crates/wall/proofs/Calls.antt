@@ -25,7 +25,16 @@ use Rattle.traffic.specs.Stepping.{StepDone, StepRefused}
 use Rattle.traffic.specs.View.{packets_view, state as traffic-state}
 use Rattle.wall.specs.declared.core.Core.{Core}
 use Rattle.wall.specs.Steps.{StepCall}
-use Rattle.wall.specs.View.{core_state, state_at, state_of, done_reply}
+use Rattle.wall.specs.View.{core_state, state_of, done_reply}
+
+-- The state of a wall over a wiring with this layout, from the parts of its plain record.
+abbrev pub state_at : Layout → Board → ℕ → Flight → State
+state_at layout board owner flight = record {
+  nodes = nodes_at layout.count board.nodes;
+  owner = owner;
+  last = flight.last;
+  packets = packets_view flight;
+}
 
 -- Where the board's count is the layout's, the state is the plain one.
 pub fitted_state : (layout : Layout) (board : Board) (owner : ℕ) (flight : Flight) → board.count ≡ layout.count → state_at layout board owner flight ≡ traffic-state board owner flight
@@ -90,6 +99,7 @@ module _ (layout : Layout) (before mid : Core) (board : Board) (fitted : mid.boa
   after = state_at layout board mid.owner mid.flight
 
   mid_is : core_state mid ≡ state_of layout before
+  unfolding state_of
   mid_is = sym (fitted_state layout mid.board mid.owner mid.flight fitted) ∙ state_is
 
   nodes_are : nodes_view mid.board ≡ (state_of layout before).nodes
@@ -124,6 +134,7 @@ pub slot_did : (layout : Layout) (before mid : Core) (board : Board) (owner : �
     state_of layout mid ≡ state_of layout before → wired layout.count ends ≡ layout → answer ≡ (slot (wired mid.board.count ends) (core_state mid)).answer →
     traffic-state board owner flight ≡ (slot (wired mid.board.count ends) (core_state mid)).after → board.count ≡ mid.board.count →
     Does layout (state_of layout before) slot_call (slotted answer) (state_at layout board owner flight)
+unfolding state_of
 slot_did layout before mid board owner flight ends answer fitted state_is spells ea es same_count =
     let w = ap (λ (k : ℕ). wired k ends) fitted ∙ spells in
     let s = sym (fitted_state layout mid.board mid.owner mid.flight fitted) ∙ state_is in
@@ -138,6 +149,7 @@ module _ (layout : Layout) (before mid : Core) (flight : Flight) (fitted : mid.b
   later = state_at layout mid.board mid.owner flight
 
   before_is : core_state mid ≡ state_of layout before
+  unfolding state_of
   before_is = sym (fitted_state layout mid.board mid.owner mid.flight fitted) ∙ state_is
 
   later_is : traffic-state mid.board mid.owner flight ≡ later

@@ -4,9 +4,7 @@ use Rattle.wiring.specs.Layout.{Layout}
 use Rattle.rules.specs.declared.Refusal.{Refusal}
 use Rattle.rules.specs.State.{State}
 use Rattle.rules.specs.Runs.{Reply, refused, done}
-use Rattle.board.specs.declared.types.Board.{Board}
 use Rattle.board.specs.View.{nodes_at}
-use Rattle.traffic.specs.declared.types.Flight.{Flight}
 use Rattle.traffic.specs.View.{packets_view, state}
 use Rattle.wall.specs.declared.core.Core.{Core}
 
@@ -15,16 +13,13 @@ abbrev pub core_state : Core → State
 core_state core = state core.board core.owner core.flight
 
 -- The state of a wall over a wiring with this layout.
-abbrev pub state_at : Layout → Board → ℕ → Flight → State
-state_at layout board owner flight = record {
-  nodes = nodes_at layout.count board.nodes;
-  owner = owner;
-  last = flight.last;
-  packets = packets_view flight;
+unfoldable pub state_of : Layout → Core → State
+state_of layout core = record {
+  nodes = nodes_at layout.count core.board.nodes;
+  owner = core.owner;
+  last = (core_state core).last;
+  packets = packets_view core.flight;
 }
-
-abbrev pub state_of : Layout → Core → State
-state_of layout core = state_at layout core.board core.owner core.flight
 
 -- The answer of a cut or a hand as a reply.
 abbrev pub done_reply : Result (Unit {0}) Refusal → Reply

@@ -56,6 +56,7 @@ fn pair(entry: Entry) -> Option<(PortSet, u8)>
     }
 }
 
+#[tactic(auto, unfolding(crate::specs::View::state_of))]
 impl<W: Wiring, C: Chooser> Wall<W, C> {
     /// How many nodes the wall has.
     pub fn node_count(&self) -> u8

@@ -1,7 +1,9 @@
+use Rattle.wall.specs.View.{state_of}
 use Rattle.wall.proofs.Calls.{fits, slot_did}
 use Rattle.wall.proofs.core.Core.next_slot.Goals as goal
 
 pub returns : goal.returns
+unfolding state_of
 returns c layout sound same spells =
     let mid = c.fit.new.self in
     let after = c.slot.new.self in

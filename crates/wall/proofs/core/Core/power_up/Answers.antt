@@ -1,10 +1,12 @@
 use Rattle.std.proofs.Common.{sym, subst}
 use Rattle.rules.specs.Promise.{Promised}
 use Rattle.rules.proofs.Promised.{promised}
+use Rattle.wall.specs.View.{state_of}
 use Rattle.wall.proofs.Calls.{powered}
 use Rattle.wall.proofs.core.Core.power_up.Goals as goal
 
 pub returns : goal.returns
+unfolding state_of
 returns g c =
     let layout = g.W.Wiring.layout c.args.wiring.now in
     let sound = g.met.W.Wiring.sound c.args.wiring.now in

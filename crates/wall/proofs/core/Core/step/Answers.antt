@@ -1,7 +1,9 @@
+use Rattle.wall.specs.View.{state_of}
 use Rattle.wall.proofs.Calls.{fits, step_did}
 use Rattle.wall.proofs.core.Core.step.Goals as goal
 
 pub returns : goal.returns
+unfolding state_of
 returns g c =
     let layout = g.W.Wiring.layout c.args.wiring.now in
     let fitted = fits layout c.fit.new.self c.node_count.result (g.met.W.Wiring.sound c.args.wiring.now) c.node_count.ensures c.fit.ensures.fitted in
