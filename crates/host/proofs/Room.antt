@@ -1,8 +1,7 @@
 -- A place of 2048 bytes has room for any page.
-use Rattle.std.proofs.Common.{◌≡◌, ℕ, ◌≤◌, Bool, true, false, cond, ltb, leb, List, length, IfOk, Ok, Err, Result, sym, refl, ap, ◌∙◌, arith}
+use Rattle.std.proofs.Common.{◌≡◌, ℕ, ◌≤◌, Bool, true, false, cond, ltb, leb, List, length, IfOk, Ok, Err, Result, refl, arith}
 use Rattle.std.proofs.lemmas.Bool.{le-ltb}
 use Rattle.fault.specs.declared.WallFault.{WallFault}
-use Rattle.rules.specs.declared.Refusal.{Refusal}
 use Rattle.rules.specs.declared.Refusal.TheVariants.{NodeOutOfRange, TrayTooSmall}
 use Rattle.wiring.specs.Layout.{Layout}
 use Rattle.wiring.specs.File.{read_file, on_err}

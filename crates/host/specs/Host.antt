@@ -1,5 +1,5 @@
 -- What a host is answered, and what it finds in its memory.
-use Rattle.std.specs.Prelude.{◌≡◌, ℕ, ◌≤◌, List, ◌++◌, length, drop, ℤ, pos, neg_ℤ, Ok, Err, Result, ◌≢◌}
+use Rattle.std.specs.Prelude.{ℕ, ◌≤◌, List, ◌++◌, length, drop, ℤ, pos, neg_ℤ, Ok, Err, Result, ◌≢◌}
 use Rattle.rules.specs.declared.Refusal.TheVariants.{TrayTooSmall}
 use Rattle.page.specs.declared.types.PageFault.{PageFault}
 use Rattle.page.specs.declared.types.PageFault.TheVariants.{Call}

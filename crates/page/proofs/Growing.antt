@@ -1,5 +1,5 @@
 -- A page that grows by an entry, and a wall's text that grows by a page.
-use Rattle.std.proofs.Common.{◌≡◌, ℕ, suc, ◌+◌, ◌*◌, ◌<◌, ◌≤◌, Bool, true, false, ◌||◌, leb, List, Ok, Err, Option, Result, sym, refl, ap, ◌∙◌, add-one, arith, MatchResult}
+use Rattle.std.proofs.Common.{◌≡◌, ℕ, ◌+◌, ◌*◌, ◌<◌, Bool, true, false, ◌||◌, leb, List, Ok, Err, Option, Result, sym, ap, ◌∙◌, add-one, arith}
 use Rattle.wiring.specs.Layout.{Layout}
 use Rattle.chooser.specs.declared.ports.PortSet.{PortSet}
 use Rattle.tray.specs.declared.types.Tray.{Tray}

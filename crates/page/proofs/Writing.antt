@@ -1,5 +1,5 @@
 -- The laws of writing on a sheet.
-use Rattle.std.proofs.Common.{◌≡◌, ℕ, ◌+◌, ◌≤◌, List, ◌++◌, length, Result, sym, refl, ap, ◌∙◌, subst, arith, length-append}
+use Rattle.std.proofs.Common.{◌≡◌, ℕ, ◌+◌, ◌≤◌, List, ◌++◌, length, Result, refl, ap, ◌∙◌, arith, length-append}
 use Rattle.tray.specs.declared.types.Tray.{Tray}
 use Rattle.tray.specs.declared.types.TrayFull.{TrayFull}
 use Rattle.tray.specs.Filled.{filled, rest, AllOrNone}

@@ -1,8 +1,7 @@
 -- A page says just what there is to tell of its node, so two nodes with one page agree.
-use Rattle.std.proofs.Common.{◌≡◌, ℕ, zero, suc, ◌+◌, ◌<◌, ◌≤◌, Bool, true, false, cond, eqb, List, [], ◌∷◌, ◌++◌, map, get_or, Some, None, Option, sym, refl, ap, ◌∙◌, ⊎_elim, arith}
+use Rattle.std.proofs.Common.{◌≡◌, ℕ, zero, suc, ◌<◌, ◌≤◌, Bool, true, false, cond, eqb, List, [], ◌∷◌, ◌++◌, map, get_or, Some, None, Option, sym, refl, ap, ◌∙◌, ⊎_elim, arith}
 use Rattle.std.proofs.lemmas.List.{map-append}
 use Rattle.std.proofs.lemmas.Bool.{eq-eqb, ne_eqb, cases_eq, cond-true, cond-false}
-use Rattle.chooser.specs.PortSets.{ports_where}
 use Rattle.chooser.specs.declared.ports.PortSet.{PortSet}
 use Rattle.rules.specs.declared.Mark.{Mark}
 use Rattle.rules.specs.declared.Mark.TheVariants.{Unmarked, Up, Down}
@@ -12,8 +11,8 @@ use Rattle.rules.specs.Numbers.{mode_letter, mark_letter}
 use Rattle.rules.specs.State.{State, Node, node_of, entry_of}
 use Rattle.wall.specs.Answers.{entry_pair}
 use Rattle.pagetext.specs.Text.{root_text, marks_text, with_node, page_text}
-use Rattle.pagetext.specs.Reading.{Doing, recovering, serving, Line, Shown, doing_of, four_marks, listed_entry, listed, shown, Read, unread, read_bytes, number_from, doing_said, mark_said, ports_said, line_said, page_said, read_page}
-use Rattle.pagetext.specs.Laws.{ByteRoot, ByteCount, InBytes, ReadBackLaw, Agree, SamePageLaw}
+use Rattle.pagetext.specs.Reading.{recovering, serving, Line, doing_of, four_marks, listed_entry, listed, shown, unread, read_bytes, number_from, doing_said, mark_said, ports_said, line_said, page_said, read_page}
+use Rattle.pagetext.specs.Laws.{ByteRoot, ByteCount, ReadBackLaw, SamePageLaw}
 use Rattle.pagetext.proofs.Figures.{numeral_reads}
 use Rattle.pagetext.proofs.Splitting.{nothing_read, node_words, node_read, port_digits, line_words, entry_words, entries_words, entries_read}
 

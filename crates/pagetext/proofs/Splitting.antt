@@ -11,7 +11,7 @@ use Rattle.rules.specs.declared.Mode.TheVariants.{New, Recovering, Serving}
 use Rattle.rules.specs.Numbers.{mode_letter, mark_letter}
 use Rattle.rules.specs.State.{Node, entry_of}
 use Rattle.wall.specs.Answers.{entry_pair}
-use Rattle.pagetext.specs.Text.{numeral, root_text, marks_text, with_node, with_port, with_ports, with_line, with_entry, with_entries}
+use Rattle.pagetext.specs.Text.{numeral, root_text, marks_text, with_node, with_port, with_line, with_entry, with_entries}
 use Rattle.pagetext.specs.Reading.{Read, unread, read_byte, read_bytes}
 use Rattle.pagetext.proofs.Figures.{by_digits}
 

@@ -1,5 +1,5 @@
 -- What a wall answers about a number brought down to 255 is what it answers about the number.
-use Rattle.std.proofs.Common.{◌≡◌, ℕ, ◌<◌, ◌≤◌, min, Bool, true, leb, ◌⊎◌, List, Decides, Option, Result, sym, refl, ap, ◌∙◌, subst, ap₂, inl, inr, arith}
+use Rattle.std.proofs.Common.{◌≡◌, ℕ, ◌<◌, ◌≤◌, min, Bool, leb, ◌⊎◌, List, Decides, Option, Result, sym, ap, ◌∙◌, subst, ap₂, inl, inr, arith}
 use Rattle.std.proofs.lemmas.Bool.{cases_lt, le-leb, or_left, or_right}
 use Rattle.wiring.specs.Layout.{Layout}
 use Rattle.chooser.specs.declared.ports.PortSet.{PortSet}

@@ -1,4 +1,4 @@
-use Rattle.std.proofs.Common.{◌+◌, ◌*◌}
+use Rattle.std.proofs.Common.{◌*◌}
 use Rattle.tray.specs.Filled.{filled}
 use Rattle.wall.specs.View.{state_of}
 use Rattle.page.specs.Sheet.{Writes}
