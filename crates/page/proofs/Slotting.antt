@@ -7,7 +7,7 @@ use Rattle.rules.specs.Runs.{Reply, slot_call, Does}
 use Rattle.rules.specs.Runs as runs
 use Rattle.rules.specs.Walls.{slots, slots_up}
 use Rattle.wall.specs.View.{state_of}
-use Rattle.wall.specs.declared.core.Core.{Core}
+use Rattle.wall.specs.declared.inner.Core.{Core}
 use Rattle.page.specs.Pages.{settled_state}
 
 pub slot_does : {layout : Layout} {s after : State} {reply : Reply} → Does layout s slot_call reply after → after ≡ (slot layout s).after

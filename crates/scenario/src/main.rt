@@ -3,7 +3,7 @@
 #![tactic(auto)]
 
 mod input;
-mod play;
+mod playing;
 mod setup;
 
 use crate::setup::{Start, Wires};
@@ -22,8 +22,13 @@ fn with_wiring<W: Wiring + Drop>(
     start: Start,
 ) -> anyhow::Result<()> {
     match picker {
-        Picker::Lowest => play::play(rt, input, Wall::power_up(wiring, LowestPort::new()), start),
-        Picker::Round => play::play(rt, input, Wall::power_up(wiring, RoundRobin::new()), start),
+        Picker::Lowest => playing::play(
+            rt,
+            input,
+            Wall::power_up(wiring, LowestPort::new()),
+            start,
+        ),
+        Picker::Round => playing::play(rt, input, Wall::power_up(wiring, RoundRobin::new()), start),
     }
 }
 

@@ -5,7 +5,7 @@ use Rattle.wiring.specs.Layout.{Layout}
 use Rattle.rules.specs.State.{Node, State, node_of}
 use Rattle.rules.specs.Promise.{Recovers, Calm}
 use Rattle.board.specs.View.{nodes_at}
-use Rattle.wall.specs.declared.core.Core.{Core}
+use Rattle.wall.specs.declared.inner.Core.{Core}
 use Rattle.wall.specs.View.{state_of}
 
 -- What a calm wall has of each node.

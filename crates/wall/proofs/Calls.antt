@@ -23,7 +23,7 @@ use Rattle.board.specs.View.{nodes_at, nodes_view, board_state}
 use Rattle.traffic.specs.declared.types.Flight.{Flight}
 use Rattle.traffic.specs.Stepping.{StepDone, StepRefused}
 use Rattle.traffic.specs.View.{packets_view, state as traffic-state}
-use Rattle.wall.specs.declared.core.Core.{Core}
+use Rattle.wall.specs.declared.inner.Core.{Core}
 use Rattle.wall.specs.Steps.{StepCall}
 use Rattle.wall.specs.View.{core_state, state_of, done_reply}
 

@@ -4,7 +4,7 @@ use Rattle.wiring.specs.Layout.{Layout, Sound}
 use Rattle.rules.specs.Runs.{Call, Reply, Does}
 use Rattle.flood.specs.declared.types.FarEnd.{FarEnd}
 use Rattle.flood.specs.View.{wired}
-use Rattle.wall.specs.declared.core.Core.{Core}
+use Rattle.wall.specs.declared.inner.Core.{Core}
 use Rattle.wall.specs.View.{state_of}
 
 -- A fact of every wiring with so many nodes.

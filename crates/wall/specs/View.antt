@@ -6,7 +6,7 @@ use Rattle.rules.specs.State.{State}
 use Rattle.rules.specs.Runs.{Reply, refused, done}
 use Rattle.board.specs.View.{nodes_at}
 use Rattle.traffic.specs.View.{packets_view, state}
-use Rattle.wall.specs.declared.core.Core.{Core}
+use Rattle.wall.specs.declared.inner.Core.{Core}
 
 -- The state by the board's own node count.
 abbrev pub core_state : Core → State

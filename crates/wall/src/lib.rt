@@ -3,11 +3,11 @@
 //! crate `rules` say, and `power_up` promises what holds of every run of them.
 #![tactic(auto)]
 
-mod core;
+mod inner;
 mod plain;
 mod questions;
 mod slot;
 mod wall;
 
-pub use crate::core::Core;
+pub use crate::inner::Core;
 pub use wall::Wall;

@@ -9,7 +9,7 @@ ghost use Rattle.wall.specs.Plain.{OfCount, OfEnds, Called};
 ghost use Rattle.wall.specs.Steps.{StepCall};
 ghost use Rattle.wall.specs.View.{state_of, done_reply};
 
-use crate::core::Core;
+use crate::inner::Core;
 use board::Board;
 use chooser::Chooser;
 use flood::Ends;

@@ -8,7 +8,7 @@ ghost use Rattle.board.specs.View.{entry_view};
 ghost use Rattle.wall.specs.Answers.{asked_of, entry_pair, entry_answer};
 ghost use Rattle.wall.specs.View.{state_of};
 
-use crate::core::Core;
+use crate::inner::Core;
 use crate::wall::Wall;
 use board::Entry;
 use chooser::{Chooser, PortSet};

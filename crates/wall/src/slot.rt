@@ -5,7 +5,7 @@ ghost use Rattle.rules.specs.Slot.{slot};
 ghost use Rattle.flood.specs.View.{wired};
 ghost use Rattle.wall.specs.View.{core_state, state_of};
 
-use crate::core::Core;
+use crate::inner::Core;
 use flood::Ends;
 use rules::SlotAnswer;
 

@@ -7,7 +7,7 @@ ghost use Rattle.traffic.specs.Posting.{post_reply};
 ghost use Rattle.wall.specs.View.{state_of, done_reply};
 ghost use Rattle.wall.specs.Steps.{StepCall};
 
-use crate::core::Core;
+use crate::inner::Core;
 use chooser::Chooser;
 use flood::Ends;
 use rules::{Outcome, Refusal, SlotAnswer, StepCounts};

@@ -1,6 +1,6 @@
 use Rattle.wall.specs.View.{state_of}
 use Rattle.wall.proofs.Calls.{fits, hand_call}
-use Rattle.wall.proofs.core.Core.hand.Goals as goal
+use Rattle.wall.proofs.inner.Core.hand.Goals as goal
 
 pub returns : goal.returns
 unfolding state_of

@@ -1,7 +1,7 @@
 use Rattle.std.proofs.Common.{ap}
 use Rattle.rules.specs.State.{Node}
 use Rattle.wall.specs.View.{state_of}
-use Rattle.wall.proofs.core.Core.mode_of.Goals as goal
+use Rattle.wall.proofs.inner.Core.mode_of.Goals as goal
 
 pub returns : goal.returns
 unfolding state_of

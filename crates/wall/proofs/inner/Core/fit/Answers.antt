@@ -3,7 +3,7 @@ use Rattle.board.specs.declared.types.Node.{Node}
 use Rattle.board.specs.View.{nodes_at}
 use Rattle.traffic.specs.View.{packets_view}
 use Rattle.wall.specs.View.{state_of}
-use Rattle.wall.proofs.core.Core.fit.Goals as goal
+use Rattle.wall.proofs.inner.Core.fit.Goals as goal
 
 pub returns : goal.returns
 unfolding state_of

@@ -4,7 +4,7 @@ use Rattle.flood.specs.View.{wired}
 use Rattle.board.specs.View.{nodes_view}
 use Rattle.wall.specs.View.{core_state}
 use Rattle.wall.proofs.Slots.{slot_begun, slot_ended}
-use Rattle.wall.proofs.core.Core.slot.Goals as goal
+use Rattle.wall.proofs.inner.Core.slot.Goals as goal
 
 pub returns : goal.returns
 returns c =

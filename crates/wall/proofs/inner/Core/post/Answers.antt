@@ -3,7 +3,7 @@ use Rattle.rules.specs.Runs.{post}
 use Rattle.traffic.specs.Posting.{post_reply}
 use Rattle.wall.specs.View.{state_of}
 use Rattle.wall.proofs.Calls.{fits, moved_over}
-use Rattle.wall.proofs.core.Core.post.Goals as goal
+use Rattle.wall.proofs.inner.Core.post.Goals as goal
 
 pub returns : goal.returns
 unfolding state_of

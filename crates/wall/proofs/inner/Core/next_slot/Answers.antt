@@ -1,6 +1,6 @@
 use Rattle.wall.specs.View.{state_of}
 use Rattle.wall.proofs.Calls.{fits, slot_did}
-use Rattle.wall.proofs.core.Core.next_slot.Goals as goal
+use Rattle.wall.proofs.inner.Core.next_slot.Goals as goal
 
 pub returns : goal.returns
 unfolding state_of

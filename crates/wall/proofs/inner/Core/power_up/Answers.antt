@@ -3,7 +3,7 @@ use Rattle.rules.specs.Promise.{Promised}
 use Rattle.rules.proofs.Promised.{promised}
 use Rattle.wall.specs.View.{state_of}
 use Rattle.wall.proofs.Calls.{powered}
-use Rattle.wall.proofs.core.Core.power_up.Goals as goal
+use Rattle.wall.proofs.inner.Core.power_up.Goals as goal
 
 pub returns : goal.returns
 unfolding state_of

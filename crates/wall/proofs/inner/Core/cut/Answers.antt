@@ -1,6 +1,6 @@
 use Rattle.wall.specs.View.{state_of}
 use Rattle.wall.proofs.Calls.{fits, cut_call}
-use Rattle.wall.proofs.core.Core.cut.Goals as goal
+use Rattle.wall.proofs.inner.Core.cut.Goals as goal
 
 pub returns : goal.returns
 unfolding state_of
