@@ -1,4 +1,4 @@
-/* The pages of a wall, for a host in C. Link target/staticlib/libhost.a, made by `rt staticlib host`. */
+/* The pages of a wall, for a host in C. Link crates/host/out/libhost.a, made by `rt lib` in crates/host. */
 #ifndef WALL_PAGE_H
 #define WALL_PAGE_H
 
