@@ -7,7 +7,7 @@ pub record Layout : Type 0 where
   pub far : ℕ → ℕ → Option (ℕ × ℕ)
 
 -- The four facts that every wiring keeps. That nothing leads out of a node or port out of range
--- follows from them (`only_inside` in proofs/Sound).
+-- follows from them (`only_inside` in specs/Sound).
 pub record Sound (l : Layout) : Type 0 where
   -- the node count is in range
   pub some_nodes : 1 ≤ l.count
