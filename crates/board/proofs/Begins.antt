@@ -1,5 +1,5 @@
 -- How a slot begins, act by act.
-use Rattle.std.proofs.Common.{◌≡◌, ℕ, ◌<◌, Bool, true, false, cond, List, [], get_or, sym, refl, ap, ◌∙◌, ap₂}
+use Rattle.std.proofs.Common.{◌≡◌, ℕ, ◌<◌, Bool, true, false, cond, List, [], get_or, Option, sym, refl, ap, ◌∙◌, ap₂}
 use mathlib.Core.Path.{fun_ext}
 use Rattle.wiring.specs.Layout.{Layout}
 use Rattle.rules.specs.declared.Act.{Act}
@@ -9,7 +9,6 @@ use Rattle.rules.specs.Ports.{table}
 use Rattle.rules.specs.Flood.{Marks, Cell, Spread, spread}
 use Rattle.rules.specs.Root.{open_marks, distances, rooted}
 use Rattle.rules.specs.Slot.{act_of, is_nothing, broadcast, heard}
-use Rattle.flood.specs.declared.types.FarEnd.{FarEnd}
 use Rattle.flood.specs.View.{wired}
 use Rattle.board.specs.declared.types.Board.{Board}
 use Rattle.board.specs.Begun.{told, begun_by, begun}
@@ -36,7 +35,7 @@ unfolding rooted rooted_node
 rooted_is layout nodes root cells is = ap (λ (xs : List Cell). table layout.count (rooted_node layout nodes xs root)) is
 
 -- Whom a broadcast informs depends on the node count alone.
-pub heard_count : (count : ℕ) (ends : List FarEnd) (nodes : List rules.Node) (owner : ℕ) (cells : List Cell) → heard (wired count []) nodes owner cells ≡ heard (wired count ends) nodes owner cells
+pub heard_count : (count : ℕ) (ends : List (Option (ℕ × ℕ))) (nodes : List rules.Node) (owner : ℕ) (cells : List Cell) → heard (wired count []) nodes owner cells ≡ heard (wired count ends) nodes owner cells
 unfolding heard
 heard_count count ends nodes owner cells = refl
 
@@ -62,7 +61,7 @@ pub acts_read : (b : Board) (layout : Layout) (owner : ℕ) (act : Act) → owne
 acts_read b layout owner act h e = e ∙ ap (λ (x : rules.Node). act_of x.mode x.hand) (sym (node_read b owner h))
 
 -- What a broadcast tells, from what was computed over a board that stands for these nodes.
-pub told_from : (count count' : ℕ) (ends : List FarEnd) (nodes nodes' : List rules.Node) (owner : ℕ) (act : Act) (cycles : ℕ) (after : List rules.Node) →
+pub told_from : (count count' : ℕ) (ends : List (Option (ℕ × ℕ))) (nodes nodes' : List rules.Node) (owner : ℕ) (act : Act) (cycles : ℕ) (after : List rules.Node) →
     count' ≡ count → nodes' ≡ nodes → cycles ≡ (broadcast (wired count' ends) nodes' owner).cycles →
     after ≡ heard (wired count' ends) nodes' owner (broadcast (wired count' ends) nodes' owner).cells →
     told (wired count ends) nodes owner act ≡ record { answer = record { owner = owner; act = act; cycles = cycles }; nodes = after }

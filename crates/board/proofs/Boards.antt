@@ -1,5 +1,8 @@
 -- Whole boards: what a loop over all records, or one that gathers from them, comes to.
-use Rattle.std.proofs.Common.{◌≡◌, ℕ, ◌<◌, ◌≤◌, false, ◌⊎◌, List, [], map, length, get_or, take, replicate, sym, ap, ◌∙◌, inl, inr, arith}
+use Rattle.std.specs.Prelude.{unwrap_or, option_map, option_copied}
+use Rattle.std.specs.Option.{option_flatten}
+use Rattle.std.proofs.Common.{Bor, Some, None, Option}
+use Rattle.std.proofs.Common.{◌≡◌, ℕ, zero, suc, ◌<◌, ◌≤◌, ◌⊎◌, List, [], ◌∷◌, map, length, get_or, take, replicate, refl, sym, ap, ◌∙◌, inl, inr, arith}
 use mathlib.Core.Path.{fun_ext}
 use lib.ListN
 use lib.ListN.{length-map, get_or-eq_default}
@@ -44,32 +47,49 @@ unfolding table
 map_table f xs n d long =
     fill_by_all (λ k. f (get_or xs k d)) (map f xs) n (f d) (length-map xs f ∙ long) (λ k h. ListN.get_or-map f xs k d)
 
+-- An array of one value has it everywhere.
+pub all_none : {X : Type 0} (x : X) (k : ℕ) → get_or (replicate 64 x) k x ≡ x
+all_none x k = elim (cases_lt k 64) [ inl h ↦ get_or-replicate 64 k x x h | inr h ↦ get_or_past (replicate 64 x) k x h ]
+
+-- What stands within a list does not depend on what a read past its end gives.
+pub other_default : {X : Type 0} (xs : List X) (k : ℕ) (d e : X) → k < length xs → get_or xs k d ≡ get_or xs k e
+other_default [] k d e h = absurd (omega arith)
+other_default (x ∷ xs) zero d e h = refl
+other_default (x ∷ xs) (suc k) d e h = other_default xs k d e (omega arith)
+
+unmarked : (p : ℕ) → get_or (replicate 4 Unmarked) p Unmarked ≡ Unmarked
+unmarked p = elim (cases_lt p 4) [ inl h ↦ get_or-replicate 4 p Unmarked Unmarked h | inr h ↦ get_or_past (replicate 4 Unmarked) p Unmarked h ]
+
+-- A row of marks past the end of the array has none, whatever such a read gives.
+row_of : (marks : List (List Mark)) (n p : ℕ) → get_or (get_or marks n []) p Unmarked ≡ get_or (get_or marks n (replicate 4 Unmarked)) p Unmarked
+row_of marks n p = go (cases_lt n (length marks))
+  where
+    go : (n < length marks) ⊎ (length marks ≤ n) → get_or (get_or marks n []) p Unmarked ≡ get_or (get_or marks n (replicate 4 Unmarked)) p Unmarked
+    go (inl h) = ap (λ (xs : List Mark). get_or xs p Unmarked) (other_default marks n [] (replicate 4 Unmarked) h)
+    go (inr h) = ap (λ (xs : List Mark). get_or xs p Unmarked) (get_or_past marks n [] h)
+        ∙ sym (ap (λ (xs : List Mark). get_or xs p Unmarked) (get_or_past marks n (replicate 4 Unmarked) h) ∙ unmarked p)
+
 -- An array of marks gathered from the records, and unmarked past the last node.
 pub marks_gathered : (b : Board) (marks : List (List Mark)) (f : rules.Node → ℕ → Mark) → ((p : ℕ) → f rules.absent p ≡ Unmarked) →
-    ((k : ℕ) → k < b.count → (p : ℕ) → get_or (get_or marks k []) p Unmarked ≡ f (node_view b.count (get_or b.nodes k no_node)) p) →
-    ((k : ℕ) → b.count ≤ k → (p : ℕ) → get_or (get_or marks k []) p Unmarked ≡ Unmarked) →
+    ((k : ℕ) → k < b.count → (p : ℕ) → get_or (get_or marks k (replicate 4 Unmarked)) p Unmarked ≡ f (node_view b.count (get_or b.nodes k no_node)) p) →
+    ((k : ℕ) → b.count ≤ k → get_or marks k (replicate 4 Unmarked) ≡ replicate 4 Unmarked) →
     marks_view marks ≡ (λ n p. f (rules.node_of (nodes_view b) n) p)
-marks_gathered b marks f none below past = fun_ext (λ n. fun_ext (λ p. go n p (cases_lt n b.count)))
+marks_gathered b marks f none below past = fun_ext (λ n. fun_ext (λ p. row_of marks n p ∙ go n p (cases_lt n b.count)))
   where
-    go : (n p : ℕ) → (n < b.count) ⊎ (b.count ≤ n) → get_or (get_or marks n []) p Unmarked ≡ f (rules.node_of (nodes_view b) n) p
+    go : (n p : ℕ) → (n < b.count) ⊎ (b.count ≤ n) → get_or (get_or marks n (replicate 4 Unmarked)) p Unmarked ≡ f (rules.node_of (nodes_view b) n) p
     go n p (inl h) = below n h p ∙ ap (λ (x : rules.Node). f x p) (sym (node_read b n h))
-    go n p (inr h) = past n h p ∙ sym (none p) ∙ ap (λ (x : rules.Node). f x p) (sym (node_past b n h))
+    go n p (inr h) = ap (λ (xs : List Mark). get_or xs p Unmarked) (past n h) ∙ unmarked p ∙ sym (none p) ∙ ap (λ (x : rules.Node). f x p) (sym (node_past b n h))
 
--- Nothing is marked in the array that such a loop starts from.
-pub unmarked : (k p : ℕ) → get_or (get_or (replicate 64 (replicate 4 Unmarked)) k []) p Unmarked ≡ Unmarked
-unmarked k p = go (cases_lt k 64)
-  where
-    row : (q : ℕ) → (q < 4) ⊎ (4 ≤ q) → get_or (replicate 4 Unmarked) q Unmarked ≡ Unmarked
-    row q (inl h) = get_or-replicate 4 q Unmarked Unmarked h
-    row q (inr h) = get_or_past (replicate 4 Unmarked) q Unmarked h
+-- An element read by `get`, with a default or flattened.
+pub got_copied : {X : Type 0} (xs : List X) (n : ℕ) (got : Option (Bor X)) (d e : X) → n < length xs →
+    ((z : X) → unwrap_or (option_map (λ (x : Bor X). x.now) got) z ≡ get_or xs n z) → unwrap_or (option_copied got) d ≡ get_or xs n e
+got_copied xs n None d e l same = same d ∙ other_default xs n d e l
+got_copied xs n (Some x) d e l same = same d ∙ other_default xs n d e l
 
-    go : (k < 64) ⊎ (64 ≤ k) → get_or (get_or (replicate 64 (replicate 4 Unmarked)) k []) p Unmarked ≡ Unmarked
-    go (inl h) = ap (λ (xs : List Mark). get_or xs p Unmarked) (get_or-replicate 64 k (replicate 4 Unmarked) [] h) ∙ row p (cases_lt p 4)
-    go (inr h) = ap (λ (xs : List Mark). get_or xs p Unmarked) (get_or_past (replicate 64 (replicate 4 Unmarked)) k [] h)
+pub got_default : {X : Type 0} (xs : List X) (n : ℕ) (got : Option (Bor X)) (copied : Option X) (result d e : X) → n < length xs →
+    ((z : X) → unwrap_or (option_map (λ (x : Bor X). x.now) got) z ≡ get_or xs n z) → copied ≡ option_copied got → result ≡ unwrap_or copied d → result ≡ get_or xs n e
+got_default {X = X} xs n got copied result d e l same is told = told ∙ ap (λ (o : Option X). unwrap_or o d) is ∙ got_copied xs n got d e l same
 
-pub none_deaf : (k : ℕ) → get_or (replicate 64 false) k false ≡ false
-none_deaf k = go (cases_lt k 64)
-  where
-    go : (k < 64) ⊎ (64 ≤ k) → get_or (replicate 64 false) k false ≡ false
-    go (inl h) = get_or-replicate 64 k false false h
-    go (inr h) = get_or_past (replicate 64 false) k false h
+pub flat : {X : Type 0} (o : Option (Option X)) → option_flatten o ≡ unwrap_or o None
+flat None = refl
+flat (Some x) = refl

@@ -1,17 +1,16 @@
 -- What the records of a board stand for: the nodes of a wall's state.
-use Rattle.std.specs.Prelude.{ℕ, Bool, true, false, List, [], map, take, Some, None}
+use Rattle.std.specs.Prelude.{◌≡◌, ℕ, Bool, true, false, List, [], map, take, Some, None, Option}
 use Rattle.wiring.specs.Layout.{Layout}
 use Rattle.rules.specs.State as rules
 use Rattle.rules.specs.Root.{distance, enlisted}
 use Rattle.rules.specs.Flood as flood
 use Rattle.board.specs.declared.types.Board.{Board}
-use Rattle.board.specs.declared.types.Entry.{Entry}
-use Rattle.board.specs.declared.types.Entry.TheVariants.{Nothing, Leads}
 use Rattle.board.specs.declared.types.Node.{Node}
+use Rattle.board.specs.declared.types.Way.{Way}
 
-abbrev pub entry_view : Entry → rules.Entry
-entry_view Nothing = rules.nothing
-entry_view (Leads ports count) = rules.entry ports count
+abbrev pub entry_view : Option Way → rules.Entry
+entry_view None = rules.nothing
+entry_view (Some way) = rules.entry way.ports way.count
 
 -- A node's record in a wall of so many nodes: its row has an entry for each of them.
 abbrev pub node_view : ℕ → Node → rules.Node
@@ -23,10 +22,6 @@ node_view count n = record {
   row = map entry_view (take count n.row);
 }
 
--- A record with its hand up, and nothing else changed.
-abbrev pub with_hand_up : Node → Node
-with_hand_up n = record { mode = n.mode; hand = true; live = n.live; marks = n.marks; row = n.row }
-
 -- The nodes of a wall of so many nodes, from the array of all records.
 unfoldable pub nodes_at : ℕ → List Node → List rules.Node
 nodes_at count nodes = map (node_view count) (take count nodes)
@@ -34,6 +29,11 @@ nodes_at count nodes = map (node_view count) (take count nodes)
 unfoldable pub nodes_view : Board → List rules.Node
 unfolding nodes_at
 nodes_view b = nodes_at b.count b.nodes
+
+-- A board whose nodes became these. Their number stays.
+pub record Becomes (before after : Board) (given : List rules.Node) : Type 0 where
+  pub nodes : nodes_view after ≡ given
+  pub count : after.count ≡ before.count
 
 -- A wall's state with these nodes and no packets. Cuts and hands look at nothing else.
 abbrev pub board_state : Board → rules.State

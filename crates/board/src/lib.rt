@@ -8,4 +8,4 @@ mod slot;
 mod types;
 
 pub use rows::act;
-pub use types::{Board, Entry, Node};
+pub use types::{Board, Node, Way};

@@ -1,46 +1,62 @@
 //! A slot: its owner broadcasts as root or member or is silent, and then every recovery is one
 //! slot nearer its end.
-ghost use Rattle.std.specs.Prelude.{◌≡◌, ℕ, ◌<◌, ◌≤◌, Bool, true, false, [], map, length, if◌then◌else◌, slice_index_or};
+ghost use Rattle.std.specs.Prelude.{◌≡◌, ℕ, ◌<◌, ◌≤◌, Bool, true, false, [], map, length, is_some, None, if◌then◌else◌, slice_index_or};
+ghost use Rattle.std.specs.Fn.{FnReturnsAt};
+ghost use Rattle.rules.specs.declared.Mark.TheVariants.{Unmarked, Down};
 ghost use Rattle.rules.specs.Ports.{table};
 ghost use Rattle.rules.specs.State.{mark_of, entry_of};
 ghost use Rattle.rules.specs.Root.{open_marks, distances, rooted};
 ghost use Rattle.rules.specs.Slot.{is_nothing, heard, tick, broadcast as flood-of};
 ghost use Rattle.flood.specs.View.{wired, marks_view, cells_view};
 ghost use Rattle.board.specs.Begun.{begun};
-ghost use Rattle.board.specs.View.{nodes_view, rooted_node};
+ghost use Rattle.board.specs.declared.types.Node.{Node};
+ghost use Rattle.board.specs.View.{Becomes, nodes_view, rooted_node};
 
-use crate::rows::{act, enlisted_record, informed_record, is_entry, open_marks_of, ticked_record};
-use crate::types::Board;
+use crate::rows::{act, enlisted_record, inform_record, ticked};
+use crate::types::{Board, Node};
 use flood::{Cell, Ends, Marks, Wave, broadcast};
 use rules::{Act, Mark, SlotAnswer};
 
-fn answer(owner: u8, act: Act, cycles: u8) -> SlotAnswer
-    ensures { result ≡ record { owner = owner; act = act; cycles = cycles } }
-{
-    SlotAnswer { owner, act, cycles }
-}
-
 impl Board {
+    // What a question has to say of each node's record, and `none` past the last node.
+    fn each<T: Copy, F: Fn(&Node) -> T>(&self, none: T, question: F) -> [T; 64]
+        requires { F.IsAlwaysCallable question }
+        ensures below { (k : ℕ) (d : Node) → k < self.now.count → FnReturnsAt F.Fn question (slice_index_or self.now.nodes k d) (slice_index_or result k none) }
+        ensures past { (k : ℕ) → self.now.count ≤ k → slice_index_or result k none ≡ none }
+    {
+        let mut all = [none; 64];
+        // By number: the record is read and the answer written at the same place.
+        for node in 0..self.count {
+            all[node as usize] = question(&self.nodes[node as usize]);
+        }
+        all
+    }
+
     // The marks of all ports, as the nodes have them.
     fn own_marks(&self) -> Marks
         ensures { marks_view result ≡ mark_of (nodes_view self.now) }
     {
-        let mut marks = [[Mark::Unmarked; 4]; 64];
-        for node in 0..self.count {
-            marks[node as usize] = self.nodes[node as usize].marks;
-        }
-        marks
+        self.each(
+            [Mark::Unmarked; 4],
+            |held: &Node| -> [Mark; 4]
+                ensures { result ≡ held.now.marks }
+            { held.marks },
+        )
     }
 
     // The marks by which a flag crosses every live cable.
     fn open_marks(&self) -> Marks
         ensures { marks_view result ≡ open_marks (nodes_view self.now) }
     {
-        let mut marks = [[Mark::Unmarked; 4]; 64];
-        for node in 0..self.count {
-            marks[node as usize] = open_marks_of(&self.nodes[node as usize].live);
-        }
-        marks
+        self.each(
+            [Mark::Unmarked; 4],
+            |held: &Node| -> [Mark; 4]
+                ensures { (p : ℕ) → slice_index_or result p Unmarked ≡ (if slice_index_or held.now.live p false then Down else Unmarked) }
+            {
+                held.live
+                    .map(|live| if live { Mark::Down } else { Mark::Unmarked })
+            },
+        )
     }
 
     // The nodes that have an entry for the owner from before.
@@ -48,29 +64,29 @@ impl Board {
         requires { owner < self.now.count }
         ensures { (n : ℕ) → slice_index_or result n false ≡ (if is_nothing (entry_of (nodes_view self.now) n owner) then false else true) }
     {
-        let mut deaf = [false; 64];
-        for node in 0..self.count {
-            deaf[node as usize] = is_entry(self.nodes[node as usize].row[owner as usize]);
-        }
-        deaf
+        self.each(
+            false,
+            |held: &Node| -> bool
+                requires { owner < 64 }
+                ensures { result ≡ is_some (slice_index_or held.now.row owner None) }
+            { held.row[owner as usize].is_some() },
+        )
     }
 
     /// Every recovery is one slot nearer its end; at its end the nodes serve.
     pub fn tick(&mut self)
-        ensures nodes { nodes_view self.new ≡ map tick (nodes_view self.old) }
-        ensures count { self.new.count ≡ self.old.count }
+        ensures { Becomes self.old self.new (map tick (nodes_view self.old)) }
     {
-        for node in 0..self.count {
-            let held = self.nodes[node as usize];
-            self.nodes[node as usize] = ticked_record(held);
+        for held in self.nodes.iter_mut() {
+            held.mode = ticked(held.mode);
         }
     }
 
     // Everyone that the root's flag reaches starts a recovery.
     fn enlist(&mut self, ends: &Ends, cells: &[Cell; 64], root: u8)
-        ensures nodes { nodes_view self.new ≡ table self.old.count (rooted_node (wired self.old.count ends.now.at) (nodes_view self.old) (cells_view self.old.count cells.now) root) }
-        ensures count { self.new.count ≡ self.old.count }
+        ensures { Becomes self.old self.new (table self.old.count (rooted_node (wired self.old.count ends.now.at) (nodes_view self.old) (cells_view self.old.count cells.now) root)) }
     {
+        // A copy: each mark is said of the board from before.
         let before = *self;
         for node in 0..self.count {
             self.nodes[node as usize] = enlisted_record(&before, ends, cells, root, node);
@@ -80,12 +96,10 @@ impl Board {
     // Everyone that the owner's flag reached has an entry for the owner.
     fn inform(&mut self, owner: u8, cells: &[Cell; 64])
         requires { owner < self.old.count }
-        ensures nodes { nodes_view self.new ≡ heard (wired self.old.count []) (nodes_view self.old) owner (cells_view self.old.count cells.now) }
-        ensures count { self.new.count ≡ self.old.count }
+        ensures { Becomes self.old self.new (heard (wired self.old.count []) (nodes_view self.old) owner (cells_view self.old.count cells.now)) }
     {
-        for node in 0..self.count {
-            let held = self.nodes[node as usize];
-            self.nodes[node as usize] = informed_record(held, owner, cells[node as usize]);
+        for (node, held) in self.nodes.iter_mut().enumerate() {
+            inform_record(held, owner, cells[node]);
         }
     }
 
@@ -104,8 +118,7 @@ impl Board {
 
     // A root's slot begins: everyone joined to it starts a recovery with fresh marks.
     fn make_root(&mut self, ends: &Ends, root: u8)
-        ensures nodes { nodes_view self.new ≡ rooted (wired self.old.count ends.now.at) (nodes_view self.old) root }
-        ensures count { self.new.count ≡ self.old.count }
+        ensures { Becomes self.old self.new (rooted (wired self.old.count ends.now.at) (nodes_view self.old) root) }
     {
         let cells = self.reach(ends, root);
         self.enlist(ends, &cells, root);
@@ -115,8 +128,7 @@ impl Board {
     fn speak(&mut self, ends: &Ends, owner: u8) -> u8
         requires { owner < self.old.count }
         ensures cycles { result ≡ (flood-of (wired self.old.count ends.now.at) (nodes_view self.old) owner).cycles }
-        ensures nodes { nodes_view self.new ≡ heard (wired self.old.count ends.now.at) (nodes_view self.old) owner (flood-of (wired self.old.count ends.now.at) (nodes_view self.old) owner).cells }
-        ensures count { self.new.count ≡ self.old.count }
+        ensures board { Becomes self.old self.new (heard (wired self.old.count ends.now.at) (nodes_view self.old) owner (flood-of (wired self.old.count ends.now.at) (nodes_view self.old) owner).cells) }
     {
         let wave = Wave {
             count: self.count,
@@ -135,24 +147,27 @@ impl Board {
     pub fn begin_slot(&mut self, ends: &Ends, owner: u8) -> SlotAnswer
         ensures answer { result ≡ (begun (wired self.old.count ends.now.at) (nodes_view self.old) owner).answer }
         ensures nodes { nodes_view self.new ≡ (begun (wired self.old.count ends.now.at) (nodes_view self.old) owner).nodes }
+        // count by itself, since callers cite it beside the other clauses.
         ensures count { self.new.count ≡ self.old.count }
     {
         if owner >= self.count {
-            return answer(owner, Act::Silent, 0);
+            return SlotAnswer {
+                owner,
+                act: Act::Silent,
+                cycles: 0,
+            };
         }
         let mode = self.nodes[owner as usize].mode;
         let hand = self.nodes[owner as usize].hand;
-        match act(mode, hand) {
-            Act::Silent => answer(owner, Act::Silent, 0),
+        let act = act(mode, hand);
+        let cycles = match act {
+            Act::Silent => 0,
             Act::Root => {
                 self.make_root(ends, owner);
-                let cycles = self.speak(ends, owner);
-                answer(owner, Act::Root, cycles)
+                self.speak(ends, owner)
             }
-            Act::Member => {
-                let cycles = self.speak(ends, owner);
-                answer(owner, Act::Member, cycles)
-            }
-        }
+            Act::Member => self.speak(ends, owner),
+        };
+        SlotAnswer { owner, act, cycles }
     }
 }

@@ -1,25 +1,24 @@
-//! What the nodes of a wall hold: their records, and the routing-table entries in them.
+//! What the nodes of a wall hold: their records, and the ways in their routing tables.
 ghost use Rattle.std.specs.Prelude.{◌≡◌, ◌≤◌, length};
 
 use rules::{Mark, Mode};
 
-/// What a routing table has for a destination: nothing, or the ports that lead there and the
-/// number of cables to cross.
-#[derive(Clone, Copy)]
-pub enum Entry {
-    Nothing,
-    Leads { ports: [bool; 4], count: u8 },
+/// The way to a destination: the ports that lead there and the number of cables to cross.
+#[derive(Clone, Copy, PartialEq, Eq, Debug)]
+pub struct Way {
+    pub ports: [bool; 4],
+    pub count: u8,
 }
 
 /// One node's record: what it is doing, whether its hand is up, which of its cables are live,
-/// the marks of its ports, and its row of entries by destination.
+/// the marks of its ports, and its row, which has the way to each destination, if there is one.
 #[derive(Clone, Copy)]
 pub struct Node {
     pub mode: Mode,
     pub hand: bool,
     pub live: [bool; 4],
     pub marks: [Mark; 4],
-    pub row: [Entry; 64],
+    pub row: [Option<Way>; 64],
 }
 
 /// The node records of a wall with `count` nodes; those from `count` on are never read.

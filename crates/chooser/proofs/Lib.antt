@@ -1,1 +1,2 @@
 pub mod PortSets
+pub mod Picks

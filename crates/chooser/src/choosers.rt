@@ -1,5 +1,5 @@
 // The interface of a chooser, and the two choosers.
-ghost use Rattle.std.specs.Prelude.{◌≡◌, ℕ, ◌+◌, ◌%◌, true, false, [], ◌∷◌, if◌then◌else◌};
+ghost use Rattle.std.specs.Prelude.{◌≡◌, ℕ, ◌+◌, ◌%◌, true, false, if◌then◌else◌};
 ghost use Rattle.chooser.specs.declared.choosers.LowestPort.{LowestPort};
 ghost use Rattle.chooser.specs.declared.ports.PortSet.{PortSet};
 ghost use Rattle.chooser.specs.PortSets.{has, vacant};
@@ -62,7 +62,7 @@ impl Chooser for LowestPort {
     ghost none = { Prim.search rules };
 
     fn pick(&mut self, offer: PortSet) -> u8 {
-        first_of(offer, 0, 1, 2, 3)
+        first_of(offer, [0, 1, 2, 3])
     }
 }
 
@@ -103,7 +103,11 @@ impl Chooser for RoundRobin {
 
     fn pick(&mut self, offer: PortSet) -> u8 {
         let last = self.last % 4;
-        let port = first_of(offer, (last + 1) % 4, (last + 2) % 4, (last + 3) % 4, last);
+        // The order as following has it.
+        let port = first_of(
+            offer,
+            [(last + 1) % 4, (last + 2) % 4, (last + 3) % 4, last],
+        );
         if !offer.is_empty() {
             self.last = port;
         }
@@ -111,19 +115,14 @@ impl Chooser for RoundRobin {
     }
 }
 
-// The first of four ports that is offered, 0 if none is.
-fn first_of(offer: PortSet, a: u8, b: u8, c: u8, d: u8) -> u8
-    ensures { result ≡ first_of (has offer) (a ∷ b ∷ c ∷ d ∷ []) }
+// The first port of the order that is offered, 0 if none is.
+#[tactic(auto, using(crate::proofs::Picks::first_found))]
+fn first_of(offer: PortSet, order: [u8; 4]) -> u8
+    ensures { result ≡ first_of (has offer) order }
 {
-    if offer.contains(a) {
-        a
-    } else if offer.contains(b) {
-        b
-    } else if offer.contains(c) {
-        c
-    } else if offer.contains(d) {
-        d
-    } else {
-        0
-    }
+    order
+        .iter()
+        .find(|port| offer.contains(**port))
+        .copied()
+        .unwrap_or(0)
 }

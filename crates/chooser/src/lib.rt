@@ -19,7 +19,7 @@ mod tests {
     #[test]
     fn sets_hold_ports(rt: HostRuntime) {
         let sides = PortSet::empty().with(1).with(3);
-        assert_eq!(rt; sides, PortSet::from_ports([false, true, false, true]));
+        assert_eq!(rt; sides, PortSet::from([false, true, false, true]));
         assert!(rt; sides.contains(3) && !sides.contains(4));
         assert_eq!(rt; sides.without(3), PortSet::empty().with(1));
         assert!(rt; !sides.is_empty() && sides.len() == 2 && sides.bits() == 10);

@@ -1,6 +1,5 @@
 // Sets of ports.
-ghost use Rattle.std.specs.Prelude.{◌≡◌, false, not, ◌&&◌, ◌||◌, ◌==◌, slice_index_or};
-ghost use Rattle.chooser.specs.PortSets.{has, ports_where, vacant, how_many, bits_of};
+ghost use Rattle.std.specs.Prelude.{◌≡◌, length};
 
 /// A set of the ports of a node: 0 (north), 1 (east), 2 (south) and 3 (west).
 ///
@@ -9,13 +8,30 @@ ghost use Rattle.chooser.specs.PortSets.{has, ports_where, vacant, how_many, bit
 /// ```
 #[derive(Clone, Copy, PartialEq, Eq, Debug)]
 pub struct PortSet {
-    north: bool,
-    east: bool,
-    south: bool,
-    west: bool,
+    on: [bool; 4],
+    ghost four: { length on ≡ 4 },
+}
+
+impl From<[bool; 4]> for PortSet {
+    ghost use Rattle.std.specs.Prelude.{false, slice_index_or};
+    ghost use Rattle.chooser.specs.PortSets.{ports_where};
+
+    ghost from_gives = { λ ports set. set ≡ ports_where (λ p. slice_index_or ports p false) };
+
+    /// The set of the ports that are marked `true`, port by port.
+    ///
+    /// ```
+    /// assert_eq!(rt; sides, PortSet::from([false, true, false, true]));
+    /// ```
+    fn from(ports: [bool; 4]) -> PortSet {
+        PortSet { on: ports }
+    }
 }
 
 impl PortSet {
+    ghost use Rattle.std.specs.Prelude.{false, not, ◌&&◌, ◌||◌, ◌==◌, if◌then◌else◌};
+    ghost use Rattle.chooser.specs.PortSets.{has, ports_where, vacant, how_many, bits_of};
+
     /// The set without any port.
     ///
     /// ```
@@ -24,28 +40,7 @@ impl PortSet {
     pub fn empty() -> PortSet
         ensures { result ≡ ports_where (λ _. false) }
     {
-        PortSet {
-            north: false,
-            east: false,
-            south: false,
-            west: false,
-        }
-    }
-
-    /// The set of the ports that are marked `true`, port by port.
-    ///
-    /// ```
-    /// assert_eq!(rt; sides, PortSet::from_ports([false, true, false, true]));
-    /// ```
-    pub fn from_ports(ports: [bool; 4]) -> PortSet
-        ensures { result ≡ ports_where (λ p. slice_index_or ports p false) }
-    {
-        PortSet {
-            north: ports[0],
-            east: ports[1],
-            south: ports[2],
-            west: ports[3],
-        }
+        PortSet { on: [false; 4] }
     }
 
     /// The set with `port` added; past port 3 nothing is added.
@@ -56,12 +51,7 @@ impl PortSet {
     pub fn with(self, port: u8) -> PortSet
         ensures { result ≡ ports_where (λ p. has self p || p == port) }
     {
-        PortSet {
-            north: self.north | (port == 0),
-            east: self.east | (port == 1),
-            south: self.south | (port == 2),
-            west: self.west | (port == 3),
-        }
+        self.marked(port, true)
     }
 
     /// The set with `port` taken out.
@@ -72,12 +62,18 @@ impl PortSet {
     pub fn without(self, port: u8) -> PortSet
         ensures { result ≡ ports_where (λ p. has self p && not (p == port)) }
     {
-        PortSet {
-            north: self.north & (port != 0),
-            east: self.east & (port != 1),
-            south: self.south & (port != 2),
-            west: self.west & (port != 3),
+        self.marked(port, false)
+    }
+
+    // The set with `port` in it or not; past port 3 nothing is marked.
+    fn marked(self, port: u8, on: bool) -> PortSet
+        ensures { result ≡ ports_where (λ p. if p == port then on else has self p) }
+    {
+        let mut marks = self.on;
+        if port < 4 {
+            marks[port as usize] = on;
         }
+        PortSet { on: marks }
     }
 
     /// Whether `port` is in the set; past port 3 none is.
@@ -88,13 +84,7 @@ impl PortSet {
     pub fn contains(self, port: u8) -> bool
         ensures { result ≡ has self port }
     {
-        match port {
-            0 => self.north,
-            1 => self.east,
-            2 => self.south,
-            3 => self.west,
-            _ => false,
-        }
+        self.on.get(port as usize).copied().unwrap_or(false)
     }
 
     /// Whether no port is in the set.
@@ -105,7 +95,7 @@ impl PortSet {
     pub fn is_empty(self) -> bool
         ensures { result ≡ vacant self }
     {
-        !(self.north | self.east | self.south | self.west)
+        !self.on.iter().any(|on| *on)
     }
 
     /// How many ports are in the set.
@@ -116,7 +106,7 @@ impl PortSet {
     pub fn len(self) -> u8
         ensures { result ≡ how_many self }
     {
-        self.north as u8 + self.east as u8 + self.south as u8 + self.west as u8
+        self.on.iter().filter(|on| **on).count() as u8
     }
 
     /// The set as a byte: bit p for port p.
@@ -127,6 +117,8 @@ impl PortSet {
     pub fn bits(self) -> u8
         ensures { result ≡ bits_of self }
     {
-        self.north as u8 + 2 * self.east as u8 + 4 * self.south as u8 + 8 * self.west as u8
+        // The weight of each port is plainer to read here than in a fold.
+        let [north, east, south, west] = self.on;
+        north as u8 + 2 * east as u8 + 4 * south as u8 + 8 * west as u8
     }
 }

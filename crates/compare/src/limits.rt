@@ -1,5 +1,8 @@
 //! The limits of the numbers: the last value that is accepted, and the answer to the next one.
+use arrayvec::ArrayVec;
 use chooser::LowestPort;
+use fault::WallFault;
+use rules::Refusal;
 use sample::WallFile;
 use std::{fmt, io};
 use wall::Wall;
@@ -7,28 +10,43 @@ use wiring::{Cable, CableList, Mesh};
 
 type PairWall = Wall<Mesh, LowestPort>;
 
-// What became of a file or a call: accepted, or the number of its refusal.
+// Why a file or a call was refused. As page's PageFault; compare stands on no page.
 #[derive(Clone, Copy)]
-enum Answer {
-    Accepted,
-    Refused(u8),
+enum Refused {
+    File(WallFault),
+    Call(Refusal),
 }
+
+impl From<WallFault> for Refused {
+    fn from(fault: WallFault) -> Refused {
+        Refused::File(fault)
+    }
+}
+
+impl From<Refusal> for Refused {
+    fn from(refusal: Refusal) -> Refused {
+        Refused::Call(refusal)
+    }
+}
+
+// What became of a file or a call.
+#[derive(Clone, Copy)]
+struct Answer(Result<(), Refused>);
 
 impl fmt::Display for Answer {
     fn fmt<W: fmt::Write>(&self, f: &mut fmt::Formatter<W>) -> fmt::Result {
-        match *self {
-            Answer::Accepted => write!(f, "accepted"),
-            Answer::Refused(number) => write!(f, "refused by {number}"),
-        }
+        let number = match self.0 {
+            Ok(()) => return write!(f, "accepted"),
+            Err(Refused::File(fault)) => fault.number(),
+            Err(Refused::Call(refusal)) => refusal.number(),
+        };
+        write!(f, "refused by {number}")
     }
 }
 
 fn read(bytes: &[u8]) -> Answer {
     let mut list = CableList::new();
-    match list.read(bytes) {
-        Ok(()) => Answer::Accepted,
-        Err(fault) => Answer::Refused(fault.number()),
-    }
+    Answer(list.read(bytes).map_err(|fault| Refused::from(fault)))
 }
 
 // A file of two nodes with one cable, at this port of the first.
@@ -58,33 +76,20 @@ fn full_ring() -> WallFile {
     file
 }
 
-fn copy(from: &[u8], to: &mut [u8]) {
-    for i in 0..from.len() {
-        if i < to.len() {
-            to[i] = from[i];
-        }
-    }
-}
-
-fn put(bytes: &mut [u8], at: usize, byte: u8) {
-    if at < bytes.len() {
-        bytes[at] = byte;
-    }
-}
-
 // The full ring with one cable more.
 fn read_past_full_ring() -> Answer {
-    let mut bytes = [0u8; 523];
-    copy(full_ring().as_slice(), &mut bytes);
-    put(&mut bytes, 6, 129);
-    read(&bytes)
+    let mut bytes = ArrayVec::<u8, 523>::new();
+    let _ = bytes.try_extend_from_slice(full_ring().as_slice());
+    let _ = bytes.try_extend_from_slice(&[0; 4]);
+    if let Some(count) = bytes.get_mut(6) {
+        *count = 129;
+    }
+    read(bytes.as_slice())
 }
 
 // Two nodes with a cable between them, calm.
 fn pair_wall() -> Option<PairWall> {
-    let Ok(mesh) = Mesh::new(2, 1) else {
-        return None;
-    };
+    let mesh = Mesh::new(2, 1).ok()?;
     let mut wall = Wall::power_up(mesh, LowestPort::new());
     for _ in 0..3u8 {
         let _ = wall.slot();
@@ -93,28 +98,20 @@ fn pair_wall() -> Option<PairWall> {
 }
 
 fn post(wall: &mut PairWall) -> Answer {
-    match wall.post(0, 1, 0) {
-        Ok(_) => Answer::Accepted,
-        Err(reason) => Answer::Refused(reason.number()),
-    }
+    Answer(
+        wall.post(0, 1, 0)
+            .map(|_| ())
+            .map_err(|refusal| Refused::from(refusal)),
+    )
 }
 
 fn cut(wall: &mut PairWall, port: u8) -> Answer {
-    match wall.cut(0, port) {
-        Ok(()) => Answer::Accepted,
-        Err(reason) => Answer::Refused(reason.number()),
-    }
+    Answer(wall.cut(0, port).map_err(|refusal| Refused::from(refusal)))
 }
 
 // Posts so many packets, and says how many were accepted.
-fn post_many(wall: &mut PairWall, times: u16) -> u16 {
-    let mut accepted = 0u16;
-    for _ in 0..times {
-        if let Answer::Accepted = post(wall) {
-            accepted = accepted.saturating_add(1);
-        }
-    }
-    accepted
+fn post_many(wall: &mut PairWall, times: u16) -> usize {
+    (0..times).filter(|_| post(wall).0.is_ok()).count()
 }
 
 fn print_files(rt: &HostRuntime) -> io::Result<()> {

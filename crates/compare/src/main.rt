@@ -14,7 +14,7 @@ mod trial;
 
 use crate::tally::Tally;
 use crate::trial::trial;
-use anyhow::anyhow;
+use anyhow::{Context, anyhow, ensure};
 use sample::{Plan, Random};
 use std::env;
 use wiring::{CableList, Mesh};
@@ -22,20 +22,14 @@ use wiring::{CableList, Mesh};
 /// The seed of all random walls and cuts.
 const SEED: u64 = 20_261_118;
 
-// The number of random cable lists: the first argument.
-fn lists_asked(rt: &HostRuntime) -> anyhow::Result<u32> {
-    match env::args(rt)?.nth(1) {
-        Some(word) => Ok(word.as_str().parse::<u32>()?),
-        None => Err(anyhow!("how many random cable lists?")),
-    }
-}
-
 fn compare_meshes(random: &mut Random, tally: &mut Tally) -> anyhow::Result<()> {
-    for place in 0..64u8 {
-        let Ok(mesh) = Mesh::new(1 + place % 8, 1 + place / 8) else {
-            return Err(anyhow!("a mesh was refused"));
-        };
-        trial(mesh, random, tally);
+    for rows in 1..=8u8 {
+        for columns in 1..=8u8 {
+            let Ok(mesh) = Mesh::new(columns, rows) else {
+                return Err(anyhow!("a mesh was refused"));
+            };
+            trial(mesh, random, tally);
+        }
     }
     Ok(())
 }
@@ -45,25 +39,27 @@ fn compare_lists(lists: u32, random: &mut Random, tally: &mut Tally) -> anyhow::
         let plan = Plan::any(random);
         let file = plan.make(random);
         let mut list = CableList::new();
-        if list.read(file.as_slice()).is_err() {
-            return Err(anyhow!("a random wall file was refused"));
-        }
+        ensure!(
+            list.read(file.as_slice()).is_ok(),
+            "a random wall file was refused"
+        );
         trial(list, random, tally);
     }
     Ok(())
 }
 
 fn run(rt: &HostRuntime) -> anyhow::Result<()> {
-    let lists = lists_asked(rt)?;
+    let argument = env::args(rt)?
+        .nth(1)
+        .context("how many random cable lists?")?;
+    let lists = argument.as_str().parse::<u32>()?;
     let mut random = Random::new(SEED);
-    let mut tally = Tally::new();
+    let mut tally = Tally::default();
     compare_meshes(&mut random, &mut tally)?;
     compare_lists(lists, &mut random, &mut tally)?;
     report::print_tally(rt, lists, &tally)?;
     limits::print_limits(rt)?;
-    if tally.differ > 0 {
-        return Err(anyhow!("the two simulators differ"));
-    }
+    ensure!(tally.differ.0 == 0, "the two simulators differ");
     Ok(())
 }
 

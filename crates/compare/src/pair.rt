@@ -1,10 +1,11 @@
 //! A wall and a net over the same cables, slot by slot in lockstep.
 use crate::answers;
-use crate::cuts::{Cut, Cuts};
+use crate::cuts::Cut;
 use crate::tally::{Difference, Tally};
 use chooser::LowestPort;
 use flags::Net;
 use sample::Random;
+use std::array::from_fn;
 use wall::Wall;
 use wiring::Wiring;
 
@@ -19,19 +20,9 @@ pub struct Pair<W> {
     slots: u32,
 }
 
-// Where the cable of each port leads, at 4 * node + port.
-fn ask_all<W: Wiring>(wiring: &W, ends: &mut [Option<(u8, u8)>]) {
-    for place in 0..256usize {
-        if place < ends.len() {
-            ends[place] = wiring.far_end((place / 4) as u8, (place % 4) as u8);
-        }
-    }
-}
-
-// A net over the cables of a wiring.
+// A net over the cables of a wiring; it takes them at 4 * node + port.
 fn net_over<W: Wiring>(wiring: &W) -> Net {
-    let mut ends = [None; 256];
-    ask_all(wiring, &mut ends);
+    let ends = from_fn(|place| wiring.far_end((place / 4) as u8, (place % 4) as u8));
     Net::new(wiring.node_count(), &ends)
 }
 
@@ -74,36 +65,34 @@ impl<W: Wiring> Pair<W> {
     }
 
     /// Cuts a random cable on both sides, if one is met in a few draws.
-    pub(crate) fn cut(&mut self, random: &mut Random, cuts: &mut Cuts) -> bool {
+    pub(crate) fn cut(&mut self, random: &mut Random) -> Option<Cut> {
         let nodes = self.wall.node_count();
         for _ in 0..64u8 {
             let node = random.below(nodes);
-            let port = random.below(4);
+            let port = random.below(4u8);
             if self.wall.cut(node, port).is_ok() {
                 self.net.fail(node, port);
                 let slots = self.slots;
-                cuts.note(Cut { slots, node, port });
-                return true;
+                return Some(Cut { slots, node, port });
             }
         }
-        false
+        None
     }
 
-    // The first cycle in which a node got flags for this destination by an up and by a down port at
-    // once, and both wrote the same; 255 if there is none. The wall's rules say where such a node
-    // sends; the net's description does not.
-    fn open_from(&self, to: u8) -> u8 {
-        let mut first = 255u8;
-        for node in 0..self.wall.node_count() {
-            let wall = answers::wall_way(&self.wall, node, to);
-            if let Some(way) = wall {
-                let marks = answers::wall_marks(&self.wall, node);
-                if (wall == answers::net_way(&self.net, node, to)) & answers::is_mixed(marks, way) {
-                    first = first.min(way.count);
-                }
-            }
-        }
-        first
+    // The cycle in which a node got flags for this destination by an up and by a down port at once, if it did and both
+    // wrote the same.
+    fn mixed_at(&self, node: u8, to: u8) -> Option<u8> {
+        let way = answers::wall_way(&self.wall, node, to)?;
+        let marks = answers::wall_marks(&self.wall, node)?;
+        let same = answers::net_way(&self.net, node, to) == Some(way);
+        (same && marks.is_mixed(&way)).then_some(way.count)
+    }
+
+    // The first such cycle of all nodes. The wall's rules say where such a node sends; the net's description does not.
+    fn open_from(&self, to: u8) -> Option<u8> {
+        (0..self.wall.node_count())
+            .filter_map(|node| self.mixed_at(node, to))
+            .min()
     }
 
     fn compare_ways(&self, to: u8, tally: &mut Tally) {
@@ -126,9 +115,8 @@ impl<W: Wiring> Pair<W> {
         }
     }
 
-    /// Runs slots until both are calm, and compares them. The answer is whether all is the same.
-    pub(crate) fn settle_and_compare(&mut self, tally: &mut Tally) -> bool {
-        let before = tally.differ;
+    /// Runs slots until both are calm, and compares them. An error is the first difference.
+    pub(crate) fn settle_and_compare(&mut self, tally: &mut Tally) -> Result<(), Difference> {
         self.settle();
         let wall = self.wall.calm();
         let net = self.net.settled();
@@ -137,6 +125,6 @@ impl<W: Wiring> Pair<W> {
         } else {
             tally.note(Difference::Calm { wall, net });
         }
-        tally.differ == before
+        tally.first.take().map_or(Ok(()), Err)
     }
 }

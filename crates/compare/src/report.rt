@@ -1,60 +1,29 @@
 //! What is printed.
-use crate::answers::Way;
 use crate::cuts::Cut;
 use crate::tally::{Difference, Found, Tally};
 use std::{fmt, io};
 
-// A root, or that there is none.
+// A root.
 #[derive(Clone, Copy)]
-struct RootText(Option<u8>);
+struct Root(u8);
 
-impl fmt::Display for RootText {
+impl fmt::Display for Root {
     fn fmt<W: fmt::Write>(&self, f: &mut fmt::Formatter<W>) -> fmt::Result {
-        match self.0 {
+        let root = self.0;
+        write!(f, "root {root}")
+    }
+}
+
+// A value, or that there is none.
+#[derive(Clone, Copy)]
+struct OrNone<T>(Option<T>);
+
+impl<T: fmt::Display> fmt::Display for OrNone<T> {
+    fn fmt<W: fmt::Write>(&self, f: &mut fmt::Formatter<W>) -> fmt::Result {
+        match &self.0 {
             None => write!(f, "none"),
-            Some(root) => write!(f, "root {root}"),
+            Some(value) => write!(f, "{value}"),
         }
-    }
-}
-
-// The ports of a set as ascending digits.
-fn write_ports<W: fmt::Write>(ports: u8, f: &mut fmt::Formatter<W>) -> fmt::Result {
-    for port in 0..4u8 {
-        if (ports >> port) % 2 == 1 {
-            write!(f, "{port}")?;
-        }
-    }
-    Ok(())
-}
-
-// An entry: its ports as digits, and its count.
-#[derive(Clone, Copy)]
-struct WayText(Option<Way>);
-
-impl fmt::Display for WayText {
-    fn fmt<W: fmt::Write>(&self, f: &mut fmt::Formatter<W>) -> fmt::Result {
-        match self.0 {
-            None => write!(f, "none"),
-            Some(way) => {
-                let count = way.count;
-                write!(f, "ports ")?;
-                write_ports(way.ports, f)?;
-                write!(f, " count {count}")
-            }
-        }
-    }
-}
-
-// The letters of four marks.
-#[derive(Clone, Copy)]
-struct MarksText([u8; 4]);
-
-impl fmt::Display for MarksText {
-    fn fmt<W: fmt::Write>(&self, f: &mut fmt::Formatter<W>) -> fmt::Result {
-        let [north, east, south, west] = self.0;
-        let (north, east) = (char::from(north), char::from(east));
-        let (south, west) = (char::from(south), char::from(west));
-        write!(f, "{north}{east}{south}{west}")
     }
 }
 
@@ -80,11 +49,12 @@ fn print_difference(rt: &HostRuntime, difference: Difference) -> io::Result<()> 
     match difference {
         Difference::Calm { wall, net } => println!(rt; "  calm: wall {wall}, flags {net}"),
         Difference::Root { node, wall, net } => {
-            let (wall, net) = (RootText(wall), RootText(net));
+            let wall = OrNone(wall.map(Root));
+            let net = OrNone(net.map(Root));
             println!(rt; "  node {node}: wall {wall}, flags {net}")
         }
         Difference::Marks { node, wall, net } => {
-            let (wall, net) = (MarksText(wall), MarksText(net));
+            let wall = OrNone(wall);
             println!(rt; "  node {node} marks: wall {wall}, flags {net}")
         }
         Difference::Entry {
@@ -93,7 +63,7 @@ fn print_difference(rt: &HostRuntime, difference: Difference) -> io::Result<()> 
             wall,
             net,
         } => {
-            let (wall, net) = (WayText(wall), WayText(net));
+            let (wall, net) = (OrNone(wall), OrNone(net));
             println!(rt; "  node {node} for {to}: wall {wall}, flags {net}")
         }
     }
@@ -123,8 +93,8 @@ pub(crate) fn print_tally(rt: &HostRuntime, lists: u32, tally: &Tally) -> io::Re
     println!(rt; "entries compared: {entries}")?;
     println!(rt; "entries left out: {left_out}")?;
     println!(rt; "differ: {differ}")?;
-    match tally.found {
-        Some(found) => print_found(rt, &found),
+    match &tally.found {
+        Some(found) => print_found(rt, found),
         None => Ok(()),
     }
 }

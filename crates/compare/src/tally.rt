@@ -1,7 +1,8 @@
 //! What was compared, and what differs.
-use crate::answers::{Way, is_by};
+use crate::answers::{Marks, Way};
 use crate::cuts::Cuts;
 use sample::WallFile;
+use std::num::Saturating;
 
 /// Two answers that differ: the wall's and the net's.
 #[derive(Clone, Copy)]
@@ -18,8 +19,8 @@ pub enum Difference {
     },
     Marks {
         node: u8,
-        wall: [u8; 4],
-        net: [u8; 4],
+        wall: Option<Marks>,
+        net: Marks,
     },
     Entry {
         node: u8,
@@ -30,7 +31,7 @@ pub enum Difference {
 }
 
 /// A difference, with all that is needed to come to it again: the wall file and the cuts so far.
-#[derive(Clone, Copy)]
+#[derive(Drop)]
 pub struct Found {
     pub difference: Difference,
     pub file: WallFile,
@@ -39,57 +40,46 @@ pub struct Found {
 
 /// How much was compared, how much differs, and the first difference. The counters stay at their
 /// largest value once they have come to it.
-#[derive(Clone, Copy)]
+#[derive(Default, Drop)]
 pub struct Tally {
-    pub walls: u64,
-    pub recoveries: u64,
-    pub cuts: u64,
-    pub roots: u64,
-    pub marks: u64,
-    pub entries: u64,
-    pub left_out: u64,
-    pub differ: u64,
+    pub walls: Saturating<u64>,
+    pub recoveries: Saturating<u64>,
+    pub cuts: Saturating<u64>,
+    pub roots: Saturating<u64>,
+    pub marks: Saturating<u64>,
+    pub entries: Saturating<u64>,
+    pub left_out: Saturating<u64>,
+    pub differ: Saturating<u64>,
+    /// The first difference of the comparison that runs.
     pub first: Option<Difference>,
+    /// The first difference of all.
     pub found: Option<Found>,
 }
 
-impl Tally {
-    /// Nothing compared yet.
-    pub(crate) fn new() -> Tally {
-        Tally {
-            walls: 0,
-            recoveries: 0,
-            cuts: 0,
-            roots: 0,
-            marks: 0,
-            entries: 0,
-            left_out: 0,
-            differ: 0,
-            first: None,
-            found: None,
-        }
-    }
+// Whether a way was written after this cycle.
+fn is_behind(way: Way, open: Option<u8>) -> bool {
+    open.is_some_and(|cycle| cycle < way.count)
+}
 
+impl Tally {
     /// Notes a difference; the first one is kept.
     pub(crate) fn note(&mut self, difference: Difference) {
-        self.differ = self.differ.saturating_add(1);
-        if self.first.is_none() {
-            self.first = Some(difference);
-        }
+        self.differ += 1;
+        let _ = self.first.get_or_insert(difference);
     }
 
     /// Compares the roots of a node.
     pub(crate) fn root(&mut self, node: u8, wall: Option<u8>, net: Option<u8>) {
-        self.roots = self.roots.saturating_add(1);
+        self.roots += 1;
         if wall != net {
             self.note(Difference::Root { node, wall, net });
         }
     }
 
     /// Compares the marks of a node's ports.
-    pub(crate) fn marks(&mut self, node: u8, wall: [u8; 4], net: [u8; 4]) {
-        self.marks = self.marks.saturating_add(4);
-        if wall != net {
+    pub(crate) fn marks(&mut self, node: u8, wall: Option<Marks>, net: Marks) {
+        self.marks += 4;
+        if wall != Some(net) {
             self.note(Difference::Marks { node, wall, net });
         }
     }
@@ -103,25 +93,21 @@ impl Tally {
         to: u8,
         wall: Option<Way>,
         net: Option<Way>,
-        open: u8,
+        open: Option<u8>,
     ) {
-        let differ = if (wall.is_some() & net.is_some())
-            && !is_by(wall, open)
-            && !is_by(net, open)
-        {
-            self.left_out = self.left_out.saturating_add(1);
-            false
-        } else {
-            self.entries = self.entries.saturating_add(1);
-            wall != net
-        };
-        if differ {
-            self.note(Difference::Entry {
-                node,
-                to,
-                wall,
-                net,
-            });
+        match (wall, net) {
+            (Some(a), Some(b)) if is_behind(a, open) && is_behind(b, open) => self.left_out += 1,
+            _ => {
+                self.entries += 1;
+                if wall != net {
+                    self.note(Difference::Entry {
+                        node,
+                        to,
+                        wall,
+                        net,
+                    });
+                }
+            }
         }
     }
 }

@@ -1,7 +1,7 @@
 //! One wall: its power-up and several recoveries in a row.
 use crate::cuts::Cuts;
 use crate::pair::Pair;
-use crate::tally::{Found, Tally};
+use crate::tally::{Difference, Found, Tally};
 use sample::{Random, WallFile};
 use wiring::Wiring;
 
@@ -10,15 +10,16 @@ const ROUNDS: u8 = 8;
 
 // Mostly one to three cables, now and then many.
 fn how_many(random: &mut Random) -> u8 {
-    if random.below(8) == 0 {
-        1 + random.below(32)
+    if random.below(8u8) == 0 {
+        1 + random.below(32u8)
     } else {
-        1 + random.below(3)
+        1 + random.below(3u8)
     }
 }
 
 // Cuts some cables, a few slots after the wall became calm, so that any node can be the first whose
 // slot comes. Whether any was cut.
+// Pair and cuts are of one wall, numbers and tally of all: so four parameters.
 fn cut_some<W: Wiring>(
     pair: &mut Pair<W>,
     random: &mut Random,
@@ -26,35 +27,32 @@ fn cut_some<W: Wiring>(
     tally: &mut Tally,
 ) -> bool {
     let mut any = false;
-    pair.idle(random.below(64));
+    pair.idle(random.below(64u8));
     for _ in 0..how_many(random) {
-        if pair.cut(random, cuts) {
+        if let Some(cut) = pair.cut(random) {
+            let _ = cuts.try_push(cut);
+            tally.cuts += 1;
             any = true;
-            tally.cuts = tally.cuts.saturating_add(1);
         }
     }
     any
 }
 
-// The power-up and the recoveries, up to the first difference. Whether there was none.
+// The power-up and the recoveries, up to the first difference.
 fn run<W: Wiring>(
     pair: &mut Pair<W>,
     random: &mut Random,
     cuts: &mut Cuts,
     tally: &mut Tally,
-) -> bool {
-    if !pair.settle_and_compare(tally) {
-        return false;
-    }
+) -> Result<(), Difference> {
+    pair.settle_and_compare(tally)?;
     for _ in 0..ROUNDS {
         if cut_some(pair, random, cuts, tally) {
-            tally.recoveries = tally.recoveries.saturating_add(1);
-            if !pair.settle_and_compare(tally) {
-                return false;
-            }
+            tally.recoveries += 1;
+            pair.settle_and_compare(tally)?;
         }
     }
-    true
+    Ok(())
 }
 
 /// Compares the two simulators on a wall. The first difference of all is kept with its wall file and
@@ -63,10 +61,9 @@ pub(crate) fn trial<W: Wiring + Drop>(wiring: W, random: &mut Random, tally: &mu
     let file = WallFile::of(&wiring);
     let mut cuts = Cuts::new();
     let mut pair = Pair::power_up(wiring);
-    tally.walls = tally.walls.saturating_add(1);
-    let same = run(&mut pair, random, &mut cuts, tally);
-    if !same && tally.found.is_none() {
-        if let Some(difference) = tally.first {
+    tally.walls += 1;
+    if let Err(difference) = run(&mut pair, random, &mut cuts, tally) {
+        if tally.found.is_none() {
             tally.found = Some(Found {
                 difference,
                 file,

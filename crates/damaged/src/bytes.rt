@@ -1,89 +1,87 @@
 //! The bytes of a file that need not be a good one.
-ghost use Rattle.std.specs.Prelude.{◌≡◌, ◌+◌, ◌<◌, ◌≤◌, min, length, take, slice_index, slice_set};
+ghost use Rattle.std.specs.Prelude.{◌≡◌, ◌<◌, ◌≤◌, ◌++◌, ◌∷◌, [], IfSome, take, slice_get, slice_set};
+ghost use Rattle.arrayvec.specs.ArrayVec.{array_vec_len};
+
+use arrayvec::ArrayVec;
 
 /// No file is longer.
 pub const MOST: usize = 600;
 
 /// The bytes of a file, up to 600.
-#[derive(Clone, Copy)]
+#[derive(Drop)]
 pub struct FileBytes {
-    bytes: [u8; MOST],
-    used: usize,
-    ghost within: { used ≤ 600 },
-    ghost long: { length bytes ≡ 600 },
+    bytes: ArrayVec<u8, MOST>,
 }
 
 impl FileBytes {
     /// A file of no byte.
     pub(crate) fn new() -> FileBytes
-        ensures { result.used ≡ 0 }
+        ensures { result.bytes.items ≡ [] }
     {
         FileBytes {
-            bytes: [0; MOST],
-            used: 0,
+            bytes: ArrayVec::new(),
         }
     }
 
     /// How many bytes the file has.
     pub(crate) fn len(&self) -> usize
-        ensures { result ≡ self.now.used }
+        ensures count { result ≡ array_vec_len self.now.bytes }
+        ensures fits { result ≤ 600 }
     {
-        self.used
+        self.bytes.len()
     }
 
     /// The byte at a place; 0 behind the file's end.
     pub(crate) fn get(&self, at: usize) -> u8
-        ensures { at < self.now.used → result ≡ slice_index self.now.bytes at }
+        ensures { IfSome (slice_get self.now.bytes.items at) (λ byte. result ≡ byte) }
     {
-        if at < self.used { self.bytes[at] } else { 0 }
+        self.bytes.as_slice().get(at).copied().unwrap_or(0)
     }
 
     /// Writes over the byte at a place. Behind the file's end nothing is written.
     pub(crate) fn set(&mut self, at: usize, byte: u8)
-        ensures used { self.new.used ≡ self.old.used }
-        ensures bytes { at < self.old.used → self.new.bytes ≡ slice_set self.old.bytes at byte }
+        ensures { self.new.bytes.items ≡ slice_set self.old.bytes.items at byte }
     {
-        if at < self.used {
-            self.bytes[at] = byte;
+        if let Some(old) = self.bytes.get_mut(at) {
+            *old = byte;
         }
     }
 
     /// Flips a bit of the byte at a place, the lowest being bit 0. Behind the file's end nothing is flipped.
     pub(crate) fn flip(&mut self, at: usize, bit: u8) {
-        let byte = self.get(at);
-        self.set(at, byte ^ (1 << (bit % 8)));
+        if let Some(byte) = self.bytes.get_mut(at) {
+            *byte ^= 1 << (bit % 8);
+        }
     }
 
     /// Writes one byte more behind the others. Past 600 nothing is written.
     pub(crate) fn push(&mut self, byte: u8)
-        ensures { self.old.used < 600 → (self.new.used ≡ self.old.used + 1) × (self.new.bytes ≡ slice_set self.old.bytes self.old.used byte) }
+        ensures { array_vec_len self.old.bytes < 600 → self.new.bytes.items ≡ self.old.bytes.items ++ byte ∷ [] }
     {
-        if self.used < MOST {
-            let at = self.used;
-            self.bytes[at] = byte;
-            self.used = at + 1;
-        }
+        let _ = self.bytes.try_push(byte);
     }
 
-    /// Writes some bytes more behind the others.
+    /// Writes some bytes more behind the others, as many as have room.
     pub(crate) fn push_all(&mut self, more: &[u8]) {
-        for byte in more {
-            self.push(*byte);
-        }
+        let _ = self.bytes.extend(more.iter().copied());
     }
 
     /// Cuts the file off, so that it has no more bytes than this.
     pub(crate) fn cut(&mut self, most: usize)
-        ensures used { self.new.used ≡ min self.old.used most }
-        ensures bytes { self.new.bytes ≡ self.old.bytes }
+        ensures { self.new.bytes.items ≡ take most self.old.bytes.items }
     {
-        self.used = self.used.min(most);
+        self.bytes.truncate(most);
     }
 
     /// The bytes of the file.
     pub(crate) fn as_slice(&self) -> &[u8]
-        ensures { result.now ≡ take self.now.used self.now.bytes }
+        ensures { result.now ≡ self.now.bytes.items }
     {
-        &self.bytes[0..self.used]
+        self.bytes.as_slice()
+    }
+
+    /// The bytes of the file, to be written over.
+    pub(crate) fn as_mut_slice(&mut self) -> &mut [u8] {
+        self.bytes.as_mut_slice()
     }
 }

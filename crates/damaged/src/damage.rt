@@ -12,59 +12,79 @@ fn good_file(random: &mut Random) -> FileBytes {
     file
 }
 
-// Damages the length of a file, or makes it random.
-fn damage_length(kind: u32, file: &mut FileBytes, random: &mut Random) {
-    match kind {
-        0 => whole::cut_anywhere(file, random),
-        1 => whole::cut_in_header(file, random),
-        2 => whole::cut_between_cables(file, random),
-        3 => whole::lengthen(file, random),
-        _ => whole::randomize(file, random),
-    }
-}
-
-// Damages the header of a file, or all but its beginning.
-fn damage_header(kind: u32, file: &mut FileBytes, random: &mut Random) {
-    match kind {
-        0 => header::change_byte(file, random),
-        1 => header::flip_bit(file, random),
-        2 => header::change_count(file, random),
-        3 => header::take_other_node_count(file, random),
-        _ => header::randomize_behind_version(file, random),
-    }
-}
-
-// Damages cables, or puts others in their places.
-fn damage_cables(kind: u32, file: &mut FileBytes, random: &mut Random) {
-    match kind {
-        0 => cables::swap_two(file, random),
-        1 => cables::turn_all(file),
-        2 => cables::double_over(file, random),
-        3 => cables::double_behind(file, random),
-        _ => cables::join_to_itself(file, random),
-    }
-}
-
-// Damages bytes wherever they stand, or writes random ones for the cables.
-fn damage_bytes(kind: u32, file: &mut FileBytes, random: &mut Random) {
-    match kind {
-        0 => whole::flip_bit(file, random),
-        1 => whole::change_bytes(file, random),
-        2 => cables::change_port(file, random),
-        3 => cables::randomize(file, random),
-        _ => cables::randomize_in_range(file, random),
-    }
+// A kind of damage.
+// In a struct, whose ghost field says that each may be called; of an array of functions nothing would be known.
+#[derive(Clone, Copy)]
+struct Kind {
+    run: fn(&mut FileBytes, &mut Random),
+    ghost callable: { IsAlwaysCallable run },
 }
 
 /// The damaged file of this number, counted from 0. Every twenty files have each kind of damage.
 pub(crate) fn damaged_file(number: u32, random: &mut Random) -> FileBytes {
+    let kinds = [
+        Kind {
+            run: whole::cut_anywhere,
+        },
+        Kind {
+            run: header::change_byte,
+        },
+        Kind {
+            run: cables::swap_two,
+        },
+        Kind {
+            run: whole::flip_bit,
+        },
+        Kind {
+            run: whole::cut_in_header,
+        },
+        Kind {
+            run: header::flip_bit,
+        },
+        Kind {
+            run: cables::turn_all,
+        },
+        Kind {
+            run: whole::change_bytes,
+        },
+        Kind {
+            run: whole::cut_between_cables,
+        },
+        Kind {
+            run: header::change_count,
+        },
+        Kind {
+            run: cables::double_over,
+        },
+        Kind {
+            run: cables::change_port,
+        },
+        Kind {
+            run: whole::lengthen,
+        },
+        Kind {
+            run: header::take_other_node_count,
+        },
+        Kind {
+            run: cables::double_behind,
+        },
+        Kind {
+            run: cables::randomize,
+        },
+        Kind {
+            run: whole::randomize,
+        },
+        Kind {
+            run: header::randomize_behind_version,
+        },
+        Kind {
+            run: cables::join_to_itself,
+        },
+        Kind {
+            run: cables::randomize_in_range,
+        },
+    ];
     let mut file = good_file(random);
-    let kind = number / 4 % 5;
-    match number % 4 {
-        0 => damage_length(kind, &mut file, random),
-        1 => damage_header(kind, &mut file, random),
-        2 => damage_cables(kind, &mut file, random),
-        _ => damage_bytes(kind, &mut file, random),
-    }
+    (kinds[number as usize % 20].run)(&mut file, random);
     file
 }

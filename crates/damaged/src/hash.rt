@@ -2,8 +2,20 @@
 ghost use Rattle.std.specs.Prelude.{◌≡◌, fold};
 ghost use Rattle.damaged.specs.Hash.{hashed_byte};
 
+use std::fmt;
+
 /// The hash of nothing.
-pub const START: u64 = 0xcbf2_9ce4_8422_2325;
+const START: u64 = 0xcbf2_9ce4_8422_2325;
+
+/// A hash of bytes, at first of none.
+#[derive(Clone, Copy)]
+pub struct Hash(u64);
+
+impl Default for Hash {
+    fn default() -> Hash {
+        Hash(START)
+    }
+}
 
 // The hash with one byte more.
 fn hash_byte(hash: u64, byte: u8) -> u64
@@ -12,13 +24,20 @@ fn hash_byte(hash: u64, byte: u8) -> u64
     (hash ^ u64::from(byte)).wrapping_mul(0x100_0000_01b3)
 }
 
-/// The hash with some bytes more.
-pub(crate) fn hash_bytes(hash: u64, bytes: &[u8]) -> u64
-    ensures { result ≡ fold hashed_byte hash bytes.now }
-{
-    let mut running = hash;
-    for byte in bytes {
-        running = hash_byte(running, *byte);
+impl Hash {
+    /// Takes some bytes more.
+    pub(crate) fn take(&mut self, bytes: &[u8])
+        ensures { self.new.0 ≡ fold hashed_byte self.old.0 bytes.now }
+    {
+        self.0 = bytes
+            .iter()
+            .fold(self.0, |hash, byte| hash_byte(hash, *byte));
     }
-    running
+}
+
+impl fmt::Display for Hash {
+    fn fmt<W: fmt::Write>(&self, f: &mut fmt::Formatter<W>) -> fmt::Result {
+        let hash = self.0;
+        write!(f, "{hash:016x}")
+    }
 }

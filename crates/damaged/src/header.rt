@@ -1,6 +1,6 @@
 //! Damage to the header of a file, and where its parts stand.
 use crate::bytes::FileBytes;
-use crate::draw::{draw, draw_byte};
+use crate::draw::{draw_byte, push_random};
 use sample::{Plan, Random};
 
 /// The length of a header.
@@ -14,20 +14,20 @@ pub const CABLE_COUNT: usize = 6;
 
 /// Writes a random byte over one of the header.
 pub(crate) fn change_byte(file: &mut FileBytes, random: &mut Random) {
-    let at = draw(random, HEADER);
+    let at = random.below(HEADER);
     file.set(at, draw_byte(random));
 }
 
 /// Flips one bit of the header.
 pub(crate) fn flip_bit(file: &mut FileBytes, random: &mut Random) {
-    let at = draw(random, HEADER);
-    let bit = random.below(8);
+    let at = random.below(HEADER);
+    let bit = random.below(8u8);
     file.flip(at, bit);
 }
 
 /// Writes a random byte over one of the counts.
 pub(crate) fn change_count(file: &mut FileBytes, random: &mut Random) {
-    let at = NODE_COUNT + draw(random, 2);
+    let at = NODE_COUNT + random.below(2usize);
     file.set(at, draw_byte(random));
 }
 
@@ -39,9 +39,7 @@ pub(crate) fn take_other_node_count(file: &mut FileBytes, random: &mut Random) {
 
 /// Keeps the mark and the version, and puts random bytes, 0 to 595, in the place of all others.
 pub(crate) fn randomize_behind_version(file: &mut FileBytes, random: &mut Random) {
-    let bytes = draw(random, 596);
+    let bytes = random.below(596usize);
     file.cut(NODE_COUNT);
-    for _ in 0..bytes {
-        file.push(draw_byte(random));
-    }
+    push_random(file, random, bytes);
 }

@@ -17,25 +17,18 @@ mod whole;
 use crate::damage::damaged_file;
 use crate::tally::Tally;
 use crate::trial::trial;
-use anyhow::anyhow;
+use anyhow::Context;
 use sample::Random;
 use std::env;
 
 /// The seed of all files.
 const SEED: u64 = 10_000;
 
-// The number of files: the first argument.
-fn files_asked(rt: &HostRuntime) -> anyhow::Result<u32> {
-    match env::args(rt)?.nth(1) {
-        Some(word) => Ok(word.as_str().parse::<u32>()?),
-        None => Err(anyhow!("how many files?")),
-    }
-}
-
 fn run(rt: &HostRuntime) -> anyhow::Result<()> {
-    let files = files_asked(rt)?;
+    let argument = env::args(rt)?.nth(1).context("how many files?")?;
+    let files = argument.as_str().parse::<u32>()?;
     let mut random = Random::new(SEED);
-    let mut tally = Tally::new();
+    let mut tally = Tally::default();
     for number in 0..files {
         let file = damaged_file(number, &mut random);
         trial(file.as_slice(), &mut random, &mut tally);

@@ -3,8 +3,7 @@ use crate::tally::Tally;
 use std::io;
 
 fn print_refused(rt: &HostRuntime, tally: &Tally) -> io::Result<()> {
-    for (i, refused) in tally.refused.iter().enumerate() {
-        let number = i + 1;
+    for (number, refused) in (1..=10u8).zip(&tally.refused) {
         let files = refused.files;
         let places = refused.places;
         println!(rt; "refused by {number}: {files} files, sum of places {places}")?;
@@ -30,5 +29,5 @@ pub(crate) fn print_tally(rt: &HostRuntime, files: u32, tally: &Tally) -> io::Re
         "pages of one node: {given} given, {no_node} refused by 12, {no_room} refused by 15"
     )?;
     println!(rt; "refusals that altered memory: {altered}")?;
-    println!(rt; "hash of all answers: {hash:016x}")
+    println!(rt; "hash of all answers: {hash}")
 }

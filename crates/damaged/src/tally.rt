@@ -1,85 +1,65 @@
-//! What was answered, counted. A counter stays at its largest value once it has come to it.
+//! What was answered, counted. A count stays at its largest value once it has come to it.
 ghost use Rattle.std.specs.Prelude.{◌≡◌, fold};
 ghost use Rattle.damaged.specs.Hash.{hashed_byte};
 
-use crate::hash;
+use crate::hash::Hash;
+use std::num::Saturating;
 
 /// The files that were refused by one number, and the sum of the places.
-#[derive(Clone, Copy)]
+#[derive(Clone, Copy, Default)]
 pub struct Refused {
-    pub files: u64,
-    pub places: u64,
+    pub files: Saturating<u64>,
+    pub places: Saturating<u64>,
 }
 
 /// The answers to all files.
-#[derive(Clone, Copy)]
+#[derive(Clone, Copy, Default)]
 pub struct Tally {
     /// Files that were accepted, and the bytes of all their texts.
-    pub accepted: u64,
-    pub text: u64,
+    pub accepted: Saturating<u64>,
+    pub text: Saturating<u64>,
     /// Files that were refused by 1 to 10.
     pub refused: [Refused; 10],
     /// The page of one node of an accepted file: given, refused by 12, refused by 15.
-    pub given: u64,
-    pub no_node: u64,
-    pub no_room: u64,
+    pub given: Saturating<u64>,
+    pub no_node: Saturating<u64>,
+    pub no_room: Saturating<u64>,
     /// Refused calls that altered the memory for the page.
-    pub altered: u64,
+    pub altered: Saturating<u64>,
     /// The hash of all answers.
-    pub hash: u64,
+    pub hash: Hash,
 }
 
 impl Tally {
-    /// No answer yet.
-    pub(crate) fn new() -> Tally {
-        let none = Refused {
-            files: 0,
-            places: 0,
-        };
-        Tally {
-            accepted: 0,
-            text: 0,
-            refused: [none; 10],
-            given: 0,
-            no_node: 0,
-            no_room: 0,
-            altered: 0,
-            hash: hash::START,
-        }
-    }
-
     /// Notes an accepted file with a text of so many bytes.
     pub(crate) fn accept(&mut self, bytes: usize)
         ensures { self.new.hash ≡ self.old.hash }
     {
-        self.accepted = self.accepted.saturating_add(1);
-        self.text = self.text.saturating_add(bytes as u64);
+        self.accepted += 1;
+        self.text += bytes as u64;
     }
 
     /// Notes a file that is refused by a number at a place.
     pub(crate) fn refuse(&mut self, number: u8, place: u16) {
-        if number == 0 || number > 10 {
-            return;
+        if let Some(at) = usize::from(number).checked_sub(1)
+            && let Some(refused) = self.refused.get_mut(at)
+        {
+            refused.files += 1;
+            refused.places += u64::from(place);
         }
-        let at = usize::from(number - 1);
-        let files = self.refused[at].files.saturating_add(1);
-        let places = self.refused[at].places.saturating_add(u64::from(place));
-        self.refused[at] = Refused { files, places };
     }
 
     /// Takes some bytes into the hash.
     pub(crate) fn take(&mut self, bytes: &[u8])
-        ensures { self.new.hash ≡ fold hashed_byte self.old.hash bytes.now }
+        ensures { self.new.hash.0 ≡ fold hashed_byte self.old.hash.0 bytes.now }
     {
-        self.hash = hash::hash_bytes(self.hash, bytes);
+        self.hash.take(bytes);
     }
 
     /// The smallest number of files that got one of the answers: accepted, or refused by 1 to 10.
-    pub(crate) fn fewest(&self) -> u64 {
-        let mut fewest = self.accepted;
-        for refused in self.refused {
-            fewest = fewest.min(refused.files);
-        }
-        fewest
+    pub(crate) fn fewest(&self) -> Saturating<u64> {
+        self.refused
+            .iter()
+            .fold(self.accepted, |fewest, refused| fewest.min(refused.files))
     }
 }

@@ -1,5 +1,4 @@
 //! The trial of one file: its text, and the page of one node into memory of a random length.
-use crate::draw::draw;
 use crate::tally::Tally;
 use page::{PAGE_MAX, PageFault, WALL_MAX, page_of_file, pages};
 use rules::Refusal;
@@ -26,7 +25,7 @@ fn note_text(file: &[u8], tally: &mut Tally) {
 fn note_answer(answer: Result<usize, PageFault>, tally: &mut Tally) {
     let (number, amount) = match answer {
         Ok(length) => {
-            tally.given = tally.given.saturating_add(1);
+            tally.given += 1;
             (0, length as u64)
         }
         Err(PageFault::File(fault)) => {
@@ -34,11 +33,11 @@ fn note_answer(answer: Result<usize, PageFault>, tally: &mut Tally) {
             (fault.number(), u64::from(fault.place()))
         }
         Err(PageFault::Call(Refusal::NodeOutOfRange)) => {
-            tally.no_node = tally.no_node.saturating_add(1);
+            tally.no_node += 1;
             (Refusal::NodeOutOfRange.number(), 0)
         }
         Err(PageFault::Call(refusal)) => {
-            tally.no_room = tally.no_room.saturating_add(1);
+            tally.no_room += 1;
             (refusal.number(), 0)
         }
     };
@@ -48,8 +47,8 @@ fn note_answer(answer: Result<usize, PageFault>, tally: &mut Tally) {
 
 // Asks for the page of a random node, to be put into a tray over a front part of the memory.
 fn ask_page(file: &[u8], memory: &mut [u8], random: &mut Random) -> Result<usize, PageFault> {
-    let node = random.below(64);
-    let room = draw(random, PAGE_MAX + 1).min(memory.len());
+    let node = random.below(64u8);
+    let room = random.below(PAGE_MAX + 1).min(memory.len());
     let mut tray = Tray::new(&mut memory[0..room]);
     page_of_file(file, node, &mut tray)
 }
@@ -60,7 +59,7 @@ fn note_page(file: &[u8], random: &mut Random, tally: &mut Tally) {
     let answer = ask_page(file, &mut memory, random);
     note_answer(answer, tally);
     if answer.is_err() && memory != [BLANK; PAGE_MAX] {
-        tally.altered = tally.altered.saturating_add(1);
+        tally.altered += 1;
     }
     tally.take(&memory);
 }

@@ -6,7 +6,7 @@
 ghost use Rattle.std.specs.Prelude.{◌≡◌};
 ghost use Rattle.fault.specs.declared.HeaderFault.TheVariants.{Cable};
 ghost use Rattle.fault.specs.declared.WallFault.TheVariants.{Header};
-ghost use Rattle.fault.specs.Fault.{problem_number, header_number, header_layer, header_index, header_place, fault_number, fault_layer, fault_index, fault_place};
+ghost use Rattle.fault.specs.Fault.{fault_number, fault_layer, fault_index, fault_place};
 
 pub mod words;
 
@@ -21,30 +21,17 @@ pub enum Layer {
     InWall,
 }
 
-/// What can be wrong with a cable of a wall file.
+/// What can be wrong with a cable of a wall file. As a number, each is its refusal's.
 #[derive(Clone, Copy, PartialEq, Eq, Debug)]
 pub enum CableProblem {
     /// The node's number is not below the node count.
-    NoSuchNode,
+    NoSuchNode = 7,
     /// The port's number is above 3.
-    NoSuchPort,
+    NoSuchPort = 8,
     /// Both ends are on one node.
-    OneNode,
+    OneNode = 9,
     /// An earlier cable is at this port.
-    PortTaken,
-}
-
-impl CableProblem {
-    pub(crate) fn number(self) -> u8
-        ensures { result ≡ problem_number self }
-    {
-        match self {
-            CableProblem::NoSuchNode => 7,
-            CableProblem::NoSuchPort => 8,
-            CableProblem::OneNode => 9,
-            CableProblem::PortTaken => 10,
-        }
-    }
+    PortTaken = 10,
 }
 
 /// A cable of a wall file that is refused.
@@ -77,54 +64,6 @@ pub enum HeaderFault {
     Cable(CableFault),
 }
 
-impl HeaderFault {
-    pub(crate) fn number(self) -> u8
-        ensures { result ≡ header_number self }
-    {
-        match self {
-            HeaderFault::Short(_) => 1,
-            HeaderFault::Mark(_) => 2,
-            HeaderFault::Version => 3,
-            HeaderFault::NodeCount => 4,
-            HeaderFault::CableCount => 5,
-            HeaderFault::Length => 6,
-            HeaderFault::Cable(fault) => fault.problem.number(),
-        }
-    }
-
-    pub(crate) fn layer(self) -> Layer
-        ensures { result ≡ header_layer self }
-    {
-        match self {
-            HeaderFault::Cable(_) => Layer::InCable,
-            _ => Layer::InHeader,
-        }
-    }
-
-    pub(crate) fn index(self) -> u8
-        ensures { result ≡ header_index self }
-    {
-        match self {
-            HeaderFault::Cable(fault) => fault.index,
-            _ => 0,
-        }
-    }
-
-    pub(crate) fn place(self) -> u16
-        ensures { result ≡ header_place self }
-    {
-        match self {
-            HeaderFault::Short(length) => u16::from(length),
-            HeaderFault::Mark(at) => u16::from(at),
-            HeaderFault::Version => 3,
-            HeaderFault::NodeCount => 5,
-            HeaderFault::CableCount => 6,
-            HeaderFault::Length => 6,
-            HeaderFault::Cable(fault) => fault.place,
-        }
-    }
-}
-
 impl From<CableFault> for HeaderFault {
     ghost from_gives = { λ e r. r ≡ Cable e };
 
@@ -149,8 +88,14 @@ impl WallFault {
         ensures { result ≡ fault_number self }
     {
         match self {
+            WallFault::Header(HeaderFault::Short(_)) => 1,
+            WallFault::Header(HeaderFault::Mark(_)) => 2,
+            WallFault::Header(HeaderFault::Version) => 3,
+            WallFault::Header(HeaderFault::NodeCount) => 4,
+            WallFault::Header(HeaderFault::CableCount) => 5,
+            WallFault::Header(HeaderFault::Length) => 6,
+            WallFault::Header(HeaderFault::Cable(fault)) => fault.problem as u8,
             WallFault::MeshSide => 11,
-            WallFault::Header(fault) => fault.number(),
         }
     }
 
@@ -159,8 +104,9 @@ impl WallFault {
         ensures { result ≡ fault_layer self }
     {
         match self {
+            WallFault::Header(HeaderFault::Cable(_)) => Layer::InCable,
+            WallFault::Header(_) => Layer::InHeader,
             WallFault::MeshSide => Layer::InWall,
-            WallFault::Header(fault) => fault.layer(),
         }
     }
 
@@ -169,8 +115,8 @@ impl WallFault {
         ensures { result ≡ fault_index self }
     {
         match self {
-            WallFault::MeshSide => 0,
-            WallFault::Header(fault) => fault.index(),
+            WallFault::Header(HeaderFault::Cable(fault)) => fault.index,
+            _ => 0,
         }
     }
 
@@ -179,8 +125,13 @@ impl WallFault {
         ensures { result ≡ fault_place self }
     {
         match self {
+            WallFault::Header(HeaderFault::Short(length)) => u16::from(length),
+            WallFault::Header(HeaderFault::Mark(at)) => u16::from(at),
+            WallFault::Header(HeaderFault::Version) => 3,
+            WallFault::Header(HeaderFault::NodeCount) => 5,
+            WallFault::Header(HeaderFault::CableCount | HeaderFault::Length) => 6,
+            WallFault::Header(HeaderFault::Cable(fault)) => fault.place,
             WallFault::MeshSide => 0,
-            WallFault::Header(fault) => fault.place(),
         }
     }
 }

@@ -48,7 +48,7 @@ impl HeaderFault {
 }
 
 impl WallFault {
-    /// What is wrong.
+    /// What is wrong, without the number and the place.
     pub fn words(self) -> &'static str
         ensures { result.now ≡ fault_words self }
     {
@@ -59,6 +59,34 @@ impl WallFault {
     }
 }
 
+impl fmt::Display for Layer {
+    ghost output = { λ l. Some (layer_words l) };
+
+    fn fmt<W: fmt::Write>(&self, f: &mut fmt::Formatter<W>) -> fmt::Result {
+        let words = self.words();
+        write!(f, "{words}")
+    }
+}
+
+impl fmt::Display for CableProblem {
+    ghost output = { λ p. Some (problem_words p) };
+
+    fn fmt<W: fmt::Write>(&self, f: &mut fmt::Formatter<W>) -> fmt::Result {
+        let words = self.words();
+        write!(f, "{words}")
+    }
+}
+
+impl fmt::Display for HeaderFault {
+    ghost output = { λ h. Some (header_words h) };
+
+    fn fmt<W: fmt::Write>(&self, f: &mut fmt::Formatter<W>) -> fmt::Result {
+        let words = self.words();
+        write!(f, "{words}")
+    }
+}
+
+/// What is wrong, and then the number, layer, index and place.
 impl fmt::Display for WallFault {
     ghost output = { λ f. Some (fault_text f) };
 

@@ -1,5 +1,5 @@
 -- What is printed of a wall file.
-use Rattle.std.specs.Prelude.{ℕ, zero, suc, List, [], ◌++◌, Some, None, Ok, Err, codes, decimal, Option, Result}
+use Rattle.std.specs.Prelude.{ℕ, zero, suc, List, [], ◌++◌, Some, None, Ok, Err, codes, decimal, Option, Result, String, string_bytes}
 use Rattle.wiring.specs.Layout.{Layout}
 use Rattle.wiring.specs.Listing.{cable_count}
 use Rattle.fault.specs.Words.{fault_text}
@@ -31,6 +31,11 @@ abbrev pub report_text : Layout → List ℕ
 report_text l =
     (codes "nodes " ++ (decimal l.count ++ (codes ", cables " ++ (decimal (cable_count l) ++ codes "\n"))))
     ++ lines_below l l.count
+
+-- What is said of a file, good or refused.
+abbrev pub said : {A : Type 0} → Result (String A) (String A) → List ℕ
+said (Ok text) = string_bytes text
+said (Err text) = string_bytes text
 
 -- A good file and a refused one.
 abbrev pub verdict_text : Result Layout WallFault → List ℕ

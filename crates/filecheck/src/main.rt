@@ -2,7 +2,7 @@
 //! it. The status is 0 for a good file and 1 for a refused one.
 #![tactic(auto)]
 
-use anyhow::anyhow;
+use anyhow::ensure;
 
 mod input;
 mod report;
@@ -15,10 +15,9 @@ fn main(rt: HostRuntime) -> anyhow::Result<()> {
     let mut buffer = [0; MOST];
     let length = input::fill(&mut rt.stdin(), &mut buffer)?;
     let verdict = report::check(rt.alloc(), &buffer[0..length])?;
-    rt.print(verdict.text.as_str())?;
-    if verdict.good {
-        Ok(())
-    } else {
-        Err(anyhow!("the file is refused"))
+    match &verdict {
+        Ok(text) | Err(text) => rt.print(text.as_str())?,
     }
+    ensure!(verdict.is_ok(), "the file is refused");
+    Ok(())
 }

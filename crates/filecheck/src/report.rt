@@ -1,6 +1,6 @@
 //! What is printed of a wall file. specs/Report.antt has every text.
 ghost use Rattle.std.specs.Prelude.{◌≡◌, is_ok, IfOk, Some, string_bytes};
-ghost use Rattle.filecheck.specs.Report.{lead_text, line_text, node_line, report_text, verdict_text};
+ghost use Rattle.filecheck.specs.Report.{lead_text, node_line, report_text, said, verdict_text};
 ghost use Rattle.wiring.specs.File.{read_file};
 
 use std::alloc::{AllocError, Global};
@@ -22,23 +22,7 @@ impl fmt::Display for Lead {
     }
 }
 
-// The line of a node whose ports lead there.
-fn line(
-    heap: Global,
-    node: u8,
-    north: Lead,
-    east: Lead,
-    south: Lead,
-    west: Lead,
-) -> Result<String, AllocError>
-    ensures { IfOk result (λ s. string_bytes s ≡ line_text node north.0 east.0 south.0 west.0) }
-{
-    format!(in heap;
-        "node {node}: port 0 to {north}, port 1 to {east}, port 2 to {south}, port 3 to {west}\n"
-    )
-}
-
-// The line of a node.
+// The line of a node. The text names the four ports one by one.
 fn node_line<W: Wiring>(heap: Global, wiring: &W, node: u8) -> Result<String, AllocError>
     ensures { IfOk result (λ s. string_bytes s ≡ node_line (W.Wiring.layout wiring.now) node) }
 {
@@ -46,7 +30,9 @@ fn node_line<W: Wiring>(heap: Global, wiring: &W, node: u8) -> Result<String, Al
     let east = Lead(wiring.far_end(node, 1));
     let south = Lead(wiring.far_end(node, 2));
     let west = Lead(wiring.far_end(node, 3));
-    line(heap, node, north, east, south, west)
+    format!(in heap;
+        "node {node}: port 0 to {north}, port 1 to {east}, port 2 to {south}, port 3 to {west}\n"
+    )
 }
 
 /// What a wiring is, in full: its counts, and a line for each node that says where its ports lead.
@@ -63,28 +49,14 @@ pub fn report<W: Wiring>(heap: Global, wiring: &W) -> Result<String, AllocError>
     Ok(text)
 }
 
-/// What is to be said of a wall file, and whether it is good.
-#[derive(Drop)]
-pub struct Verdict {
-    /// What is to be printed.
-    pub text: String,
-    /// Whether the file spells a wiring.
-    pub good: bool,
-}
-
-/// Reads a wall file, and says what it spells or what is wrong with it.
-pub fn check(heap: Global, bytes: &[u8]) -> Result<Verdict, AllocError>
-    ensures { IfOk result (λ v. (string_bytes v.text ≡ verdict_text (read_file bytes.now)) × (v.good ≡ is_ok (read_file bytes.now))) }
+/// Reads a wall file, and says what it spells or what is wrong with it: a text to be printed, as a
+/// good one or as a refusal.
+pub fn check(heap: Global, bytes: &[u8]) -> Result<Result<String, String>, AllocError>
+    ensures { IfOk result (λ v. (said v ≡ verdict_text (read_file bytes.now)) × (is_ok v ≡ is_ok (read_file bytes.now))) }
 {
     let mut list = CableList::new();
     match list.read(bytes) {
-        Ok(()) => {
-            let text = report(heap, &list)?;
-            Ok(Verdict { text, good: true })
-        }
-        Err(fault) => {
-            let text = format!(in heap; "refused: {fault}\n")?;
-            Ok(Verdict { text, good: false })
-        }
+        Ok(()) => Ok(Ok(report(heap, &list)?)),
+        Err(fault) => Ok(Err(format!(in heap; "refused: {fault}\n")?)),
     }
 }

@@ -1,231 +1,165 @@
 //! One slot: its owner may send a flag, and each node that gets one acts on it, cycle by cycle.
 
-ghost use Rattle.std.specs.Prelude.{◌<◌};
+use crate::{Clock, Direction, Entry, Net, Node, Place};
 
-use crate::{Direction, Entry, Net};
-
-/// The flags on the wires in one cycle: those that leave the ports, or those that come in at them.
+/// The flags that come in at the ports in one cycle.
 #[derive(Clone, Copy)]
 struct Flags {
-    /// Whether there is a flag at each place.
-    at: [bool; 256],
-    /// Whether there is one at some port of the node.
-    node: [bool; 64],
-    /// Whether there is one anywhere.
-    any: bool,
+    /// For each node, the ports where one comes in, if any does.
+    ports: [Option<[bool; 4]>; 64],
 }
 
 impl Flags {
     /// No flag anywhere.
     fn none() -> Flags {
-        Flags {
-            at: [false; 256],
-            node: [false; 64],
-            any: false,
-        }
+        Flags { ports: [None; 64] }
     }
 
-    /// Puts a flag at the place.
-    fn put(&mut self, place: u8) {
-        self.at[place as usize] = true;
-        self.node[place as usize / 4] = true;
-        self.any = true;
+    /// A flag comes in at the place.
+    fn put(&mut self, place: Place) {
+        let ports = &mut self.ports[place.node as usize];
+        ports.get_or_insert([false; 4])[place.port as usize] = true;
     }
 
-    /// The ports of the node that have a flag.
-    fn ports(&self, node: u8) -> [bool; 4]
-        requires { node < 64 }
-    {
-        let p = 4 * node as usize;
-        [self.at[p], self.at[p + 1], self.at[p + 2], self.at[p + 3]]
+    /// Whether a flag comes in at the place.
+    fn has(&self, place: Place) -> bool {
+        self.ports[place.node as usize].unwrap_or([false; 4])[place.port as usize]
     }
 }
 
 impl Net {
     /// Runs the next slot, of as many cycles as there are nodes.
     pub fn run_slot(&mut self) {
-        let owner = self.owner;
-        let count = self.count;
-        let mut sent = self.open(owner);
-        for t in 0..count {
-            self.cycle = self.cycle.saturating_add(1);
-            if sent.any {
-                sent = self.step(owner, t.saturating_add(1), &sent);
+        let mut coming = self.open();
+        for t in 1..=self.clock.count {
+            self.clock.cycle = self.clock.cycle.saturating_add(1);
+            if let Some(came) = coming {
+                coming = self.step(t, &came);
             }
         }
-        self.owner = if owner < 63 && owner + 1 < count {
-            owner + 1
-        } else {
-            0
-        };
+        self.clock.owner = (self.clock.owner + 1) % self.clock.count;
     }
 
-    /// What the owner sends in the first cycle of its slot. A recovering node takes its turn to broadcast. Any other
-    /// one that has detected a failure becomes a root. The rest are silent.
-    fn open(&mut self, owner: u8) -> Flags {
-        if owner >= 64 {
-            return Flags::none();
-        }
-        if !self.recovering(owner) {
-            if !self.detected[owner as usize] {
-                return Flags::none();
+    /// The owner begins its slot. A recovering node takes its turn to broadcast. Any other one that has detected a failure
+    /// becomes a root. The rest are silent. Answers the flags that come in in the first cycle.
+    fn open(&mut self) -> Option<Flags> {
+        let clock = self.clock;
+        let owner = &mut self.nodes[clock.owner as usize];
+        if !owner.is_recovering(clock) {
+            if !owner.detected {
+                return None;
             }
-            self.recover(owner, owner, &[false; 4]);
+            owner.recover(clock, &[false; 4]);
         }
-        self.send_on_all(owner)
+        let mut coming = Flags::none();
+        owner.send(&[true; 4], &mut coming);
+        Some(coming)
     }
 
-    /// A flag on each working link of the node.
-    fn send_on_all(&self, node: u8) -> Flags
-        requires { node < 64 }
-    {
-        let mut sent = Flags::none();
-        for p in 0..4u8 {
-            let place = 4 * node + p;
-            if self.cable[place as usize].is_some() {
-                sent.put(place);
-            }
-        }
-        sent
-    }
-
-    /// One cycle: the flags that were sent arrive, and the nodes act on them. Answers what is sent in the next cycle.
-    fn step(&mut self, owner: u8, t: u8, sent: &Flags) -> Flags {
-        let came = self.deliver(sent);
-        for n in 0..64u8 {
-            if sent.node[n as usize] && came.node[n as usize] && self.root(n) == Some(owner) {
-                self.settle_ties(n, sent, &came);
-            }
-        }
-        self.act(owner, t, &came)
-    }
-
-    /// The flags that come in where `sent` went out.
-    fn deliver(&self, sent: &Flags) -> Flags {
-        let mut came = Flags::none();
-        for n in 0..64u8 {
-            if sent.node[n as usize] {
-                self.deliver_from(n, sent, &mut came);
-            }
-        }
-        came
-    }
-
-    /// The flags that come in from one node.
-    fn deliver_from(&self, node: u8, sent: &Flags, came: &mut Flags)
-        requires { node < 64 }
-    {
-        for p in 0..4u8 {
-            let place = 4 * node + p;
-            if sent.at[place as usize] {
-                if let Some(far) = self.cable[place as usize] {
-                    came.put(far);
+    /// Cycle `t` of the slot, where the first is 1: each node that gets a flag acts on it. Answers the flags that come in in
+    /// the next cycle, if any node forwards one.
+    fn step(&mut self, t: u8, came: &Flags) -> Option<Flags> {
+        let clock = self.clock;
+        let mut coming = None;
+        let nodes = &mut self.nodes[..clock.count as usize];
+        for (number, (node, ports)) in nodes.iter_mut().zip(&came.ports).enumerate() {
+            if let Some(ports) = ports {
+                if node.root() == Some(clock.owner) {
+                    node.settle_ties(number, ports, came);
                 }
+                if let Some(sends) = node.receive(clock, t, number, *ports) {
+                    node.send(&sends, coming.get_or_insert(Flags::none()));
+                }
+            }
+        }
+        coming
+    }
+}
+
+impl Node {
+    /// Sends a flag on each of the ports that has a working link. It comes in at the other end in the next cycle.
+    fn send(&self, ports: &[bool; 4], coming: &mut Flags) {
+        for (port, sends) in self.ports.iter().zip(ports) {
+            if *sends && let Some(far) = port.far {
+                coming.put(far);
             }
         }
     }
 
     /// In the root's broadcast, a node that sends a flag through a port and gets one there in the same cycle is as far from
     /// the root as its neighbour: the node with the higher number marks the link up, and the other one down.
-    fn settle_ties(&mut self, node: u8, sent: &Flags, came: &Flags)
-        requires { node < 64 }
-    {
-        for p in 0..4u8 {
-            let place = 4 * node + p;
-            if sent.at[place as usize] && came.at[place as usize] {
-                if let Some(far) = self.cable[place as usize] {
-                    self.mark[place as usize] = if node > far / 4 {
-                        Direction::Up
-                    } else {
-                        Direction::Down
-                    };
-                }
+    fn settle_ties(&mut self, number: usize, ports: &[bool; 4], came: &Flags) {
+        for (port, gets) in self.ports.iter_mut().zip(ports) {
+            // What it sent through the port has come in at the other end.
+            if *gets
+                && let Some(far) = port.far
+                && came.has(far)
+            {
+                port.mark = if number > far.node as usize {
+                    Direction::Up
+                } else {
+                    Direction::Down
+                };
             }
         }
-    }
-
-    /// Each node that got a flag acts on it. Answers what is sent in the next cycle.
-    fn act(&mut self, owner: u8, t: u8, came: &Flags) -> Flags {
-        let mut next = Flags::none();
-        for n in 0..64u8 {
-            if came.node[n as usize] {
-                self.receive(n, owner, t, &came.ports(n), &mut next);
-            }
-        }
-        next
     }
 
     /// A node gets flags on the given ports. One that is not recovering has them from a root, and begins to recover.
     /// One that has no entry for the owner yet writes it and forwards the flag. Any further flag is ignored.
-    fn receive(&mut self, node: u8, owner: u8, t: u8, ports: &[bool; 4], next: &mut Flags)
-        requires { node < 64 }
-    {
-        if !self.recovering(node) {
-            self.recover(node, owner, ports);
+    /// Answers the ports where the flag is forwarded.
+    fn receive(
+        &mut self,
+        clock: Clock,
+        t: u8,
+        number: usize,
+        ports: [bool; 4],
+    ) -> Option<[bool; 4]> {
+        if !self.is_recovering(clock) {
+            self.recover(clock, &ports);
         }
-        if node != owner && owner < 64 && self.entry(node, owner).is_none() {
-            let entry = Entry {
-                ports: *ports,
-                cycle: t,
-            };
-            self.table[64 * node as usize + owner as usize] = Some(entry);
-            self.forward(node, ports, next);
+        let owner = clock.owner as usize;
+        if number == owner || self.table[owner].is_some() {
+            return None;
         }
+        self.table[owner] = Some(Entry { ports, cycle: t });
+        Some(self.forward(&ports))
     }
 
     /// The node begins to recover: its table is emptied, and what it has detected is taken up.
     /// It marks the ports where the root's flag came in up, and those of its other links, where it will send the flag, down.
-    fn recover(&mut self, node: u8, root: u8, ports: &[bool; 4])
-        requires { node < 64 }
-    {
-        let count = self.count as u64;
-        self.root[node as usize] = Some(root);
-        self.resume[node as usize] = self.cycle.saturating_add(count * count);
-        self.detected[node as usize] = false;
-        for d in 0..64u8 {
-            self.table[64 * node as usize + d as usize] = None;
-        }
-        for p in 0..4u8 {
-            self.mark_port(4 * node + p, ports[p as usize]);
+    fn recover(&mut self, clock: Clock, came: &[bool; 4]) {
+        self.detected = false;
+        self.member = Some(clock.membership());
+        self.table = [None; 64];
+        for (port, came) in self.ports.iter_mut().zip(came) {
+            port.mark = if *came {
+                Direction::Up
+            } else if port.far.is_some() {
+                Direction::Down
+            } else {
+                Direction::None
+            };
         }
     }
 
-    /// Marks a port: up where the root's flag came in, down at any other working link.
-    fn mark_port(&mut self, place: u8, came: bool) {
-        self.mark[place as usize] = if came {
-            Direction::Up
-        } else if self.cable[place as usize].is_some() {
-            Direction::Down
-        } else {
-            Direction::None
-        };
-    }
-
-    /// The node sends the flag on to the ports where it did not come in. Where it came in from an up port, it goes to no
-    /// up port, since a packet on its way back would go down and then up.
-    fn forward(&self, node: u8, ports: &[bool; 4], next: &mut Flags)
-        requires { node < 64 }
-    {
-        let from_up = self.came_from_up(node, ports);
-        for p in 0..4u8 {
-            let allowed = match self.direction(node, p) {
+    /// The ports where the node sends the flag on: those where it did not come in. Where it came in from an up port, it goes
+    /// to no up port, since a packet on its way back would go down and then up.
+    fn forward(&self, came: &[bool; 4]) -> [bool; 4] {
+        let from_up = self
+            .ports
+            .iter()
+            .zip(came)
+            .any(|(port, came)| *came && port.mark == Direction::Up);
+        // In place: of the number that from_fn hands to a closure no bound is known.
+        let mut sends = [false; 4];
+        for (sends, (port, came)) in sends.iter_mut().zip(self.ports.iter().zip(came)) {
+            let allowed = match port.mark {
                 Direction::None => false,
                 Direction::Up => !from_up,
                 Direction::Down => true,
             };
-            if allowed && !ports[p as usize] {
-                next.put(4 * node + p);
-            }
+            *sends = allowed && !*came;
         }
-    }
-
-    /// Whether one of the given ports is marked up.
-    fn came_from_up(&self, node: u8, ports: &[bool; 4]) -> bool {
-        for p in 0..4u8 {
-            if ports[p as usize] && self.direction(node, p) == Direction::Up {
-                return true;
-            }
-        }
-        false
+        sends
     }
 }

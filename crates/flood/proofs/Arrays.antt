@@ -5,22 +5,22 @@ use mathlib.Core.Bool.{or_assoc, or-false}
 use lib.ListN.{get_or-map}
 use Rattle.std.proofs.lemmas.List.{get_or-take}
 use Rattle.std.proofs.lemmas.Bool.{and_parts, and_from, ltb-true, lt-ltb, cases_lt, le-ltb}
+use Rattle.std.specs.Bool.{then_some}
+use Rattle.std.specs.Prelude.{IfSome, is_some}
 use Rattle.wiring.specs.Layout.{Layout, Sound}
 use Rattle.rules.specs.Ports.{ports_where, some_port}
 use Rattle.rules.specs.Flood as rules
 use Rattle.flood.specs.declared.types.Cell.{Cell}
 use Rattle.flood.specs.declared.types.Cell.TheVariants.{Waiting, Deaf, Wrote}
-use Rattle.flood.specs.declared.types.FarEnd.{FarEnd}
-use Rattle.flood.specs.declared.types.FarEnd.TheVariants.{Nowhere, To}
 use Rattle.flood.specs.Fit.{fits, all_fit}
-use Rattle.flood.specs.View.{end_view, far_in, wired, cell_view, cells_view, reached_by}
+use Rattle.flood.specs.View.{far_in, wired, cell_view, cells_view, reached_by}
 use Rattle.rules.proofs.Views.{view_more}
 
 -- A far end in a table that fits is in range.
-pub fit_at : (ends : List FarEnd) (k m q : ℕ) → all_fit ends ≡ true → get_or ends k Nowhere ≡ To m q → (m < 64) × (q < 4)
+pub fit_at : (ends : List (Option (ℕ × ℕ))) (k m q : ℕ) → all_fit ends ≡ true → get_or ends k None ≡ Some (m, q) → (m < 64) × (q < 4)
 fit_at [] k m q ok e = let z : ◌≡◌ {A = ℕ} 0 1 = cc in absurd (omega arith)
 fit_at (o ∷ ends) zero m q ok e =
-    let f : fits (To m q) ≡ true = subst (λ (x : FarEnd). fits x ≡ true) e (and_parts (fits o) (all_fit ends) ok).0 in
+    let f : fits (Some (m, q)) ≡ true = subst (λ (x : Option (ℕ × ℕ)). fits x ≡ true) e (and_parts (fits o) (all_fit ends) ok).0 in
     let h = and_parts (ltb m 64) (ltb q 4) f in
     (ltb-true _ _ h.0, ltb-true _ _ h.1)
 fit_at (o ∷ ends) (suc k) m q ok e = fit_at ends k m q (and_parts (fits o) (all_fit ends) ok).1 e
@@ -38,7 +38,7 @@ pub cell_past : (count : ℕ) (cells : List Cell) (n : ℕ) → count ≤ n → 
 cell_past count cells n h = get_or-map cell_view (take count cells) n Waiting ∙ ap cell_view (take_past count cells n Waiting h)
 
 -- Within range the layout that a table spells reads the table.
-pub far_read : (ends : List FarEnd) (n p : ℕ) → n < 64 → p < 4 → far_in ends n p ≡ end_view (get_or ends (4 * n + p) Nowhere)
+pub far_read : (ends : List (Option (ℕ × ℕ))) (n p : ℕ) → n < 64 → p < 4 → far_in ends n p ≡ get_or ends (4 * n + p) None
 far_read ends n p hn hp = rw (lt-ltb n 64 hn, lt-ltb p 4 hp) refl
 
 module _ (layout : Layout) (marks : rules.Marks) (owner c : ℕ) (cells : List rules.Cell) (n p : ℕ) where
@@ -69,31 +69,47 @@ module _ (layout : Layout) (marks : rules.Marks) (owner c : ℕ) (cells : List r
   unfolding rules.next_cell
   next_missed e h = rw (e, h, rules.next_cell)
 
-  -- The four answers together are the set of ports that get a flag.
-  pub flags_are : (a b d e : Bool) → a ≡ rules.gets layout marks owner c cells n 0 → b ≡ rules.gets layout marks owner c cells n 1 →
-      d ≡ rules.gets layout marks owner c cells n 2 → e ≡ rules.gets layout marks owner c cells n 3 →
-      a ∷ b ∷ d ∷ e ∷ [] ≡ ports_where (rules.gets layout marks owner c cells n)
-  unfolding ports_where
-  flags_are a b d e p q r s = rw (p, q, r, s) refl
+-- A list of four, by its elements.
+pub four_made : {X : Type 0} (z : X) (f : ℕ → X) (xs : List X) → length xs ≡ 4 → ((k : ℕ) → k < 4 → get_or xs k z ≡ f k) → xs ≡ f 0 ∷ f 1 ∷ f 2 ∷ f 3 ∷ []
+four_made z f [] long each = absurd (omega arith)
+four_made z f (a ∷ []) long each = absurd (omega arith)
+four_made z f (a ∷ b ∷ []) long each = absurd (omega arith)
+four_made z f (a ∷ b ∷ d ∷ []) long each = absurd (omega arith)
+four_made z f (a ∷ b ∷ d ∷ e ∷ []) long each =
+    let p : a ≡ f 0 = each 0 (omega arith) in
+    let q : b ≡ f 1 = each 1 (omega arith) in
+    let r : d ≡ f 2 = each 2 (omega arith) in
+    let s : e ≡ f 3 = each 3 (omega arith) in
+    rw (p, q, r, s) refl
+four_made z f (a ∷ b ∷ d ∷ e ∷ g ∷ more) long each = absurd (omega arith)
 
-some_is : (a b d e : Bool) → some_port (a ∷ b ∷ d ∷ e ∷ []) ≡ (a || b || d || e)
+-- The four answers together are the set of ports that a test holds of.
+pub four_are : (f : ℕ → Bool) (ports : List Bool) → length ports ≡ 4 → ((k : ℕ) → k < 4 → get_or ports k false ≡ f k) → ports ≡ ports_where f
+unfolding ports_where
+four_are f ports long each = four_made false f ports long each
+
+some_is : (ports : List Bool) → length ports ≡ 4 → some_port ports ≡ (get_or ports 0 false || get_or ports 1 false || get_or ports 2 false || get_or ports 3 false)
 unfolding some_port
-some_is a b d e = refl
+some_is [] long = absurd (omega arith)
+some_is (a ∷ []) long = absurd (omega arith)
+some_is (a ∷ b ∷ []) long = absurd (omega arith)
+some_is (a ∷ b ∷ d ∷ []) long = absurd (omega arith)
+some_is (a ∷ b ∷ d ∷ e ∷ []) long = refl
+some_is (a ∷ b ∷ d ∷ e ∷ g ∷ more) long = absurd (omega arith)
 
-module _ (layout : Layout) (marks : rules.Marks) (owner c : ℕ) (cells : List rules.Cell) (n : ℕ) (a b d e : Bool)
-    (first : a ≡ rules.gets layout marks owner c cells n 0) (second : b ≡ rules.gets layout marks owner c cells n 1)
-    (third : d ≡ rules.gets layout marks owner c cells n 2) (fourth : e ≡ rules.gets layout marks owner c cells n 3)
+module _ (layout : Layout) (marks : rules.Marks) (owner c : ℕ) (cells : List rules.Cell) (n : ℕ) (ports : List Bool) (long : length ports ≡ 4)
+    (each : (k : ℕ) → k < 4 → get_or ports k false ≡ rules.gets layout marks owner c cells n k)
     (waits : rules.cell_of cells n ≡ rules.waiting) where
-  pub some_flag : (a || b || d || e) ≡ true → rules.wrote (a ∷ b ∷ d ∷ e ∷ []) (c + 1) ≡ rules.next_cell layout marks owner c cells n
+  pub some_flag : (get_or ports 0 false || get_or ports 1 false || get_or ports 2 false || get_or ports 3 false) ≡ true → rules.wrote ports (c + 1) ≡ rules.next_cell layout marks owner c cells n
   some_flag some =
-      let same = flags_are layout marks owner c cells n a b d e first second third fourth in
-      let h = ap some_port (sym same) ∙ some_is a b d e ∙ some in
+      let same = four_are (rules.gets layout marks owner c cells n) ports long each in
+      let h = ap some_port (sym same) ∙ some_is ports long ∙ some in
       ap₂ rules.wrote same (add-one c) ∙ sym (next_reached layout marks owner c cells n waits h)
 
-  pub no_flag : (a || b || d || e) ≡ false → rules.waiting ≡ rules.next_cell layout marks owner c cells n
+  pub no_flag : (get_or ports 0 false || get_or ports 1 false || get_or ports 2 false || get_or ports 3 false) ≡ false → rules.waiting ≡ rules.next_cell layout marks owner c cells n
   no_flag none =
-      let same = flags_are layout marks owner c cells n a b d e first second third fourth in
-      let h = ap some_port (sym same) ∙ some_is a b d e ∙ none in
+      let same = four_are (rules.gets layout marks owner c cells n) ports long each in
+      let h = ap some_port (sym same) ∙ some_is ports long ∙ none in
       sym (next_missed layout marks owner c cells n waits h)
 
 -- Whether a cycle reached a node, one more node at a time.
@@ -118,29 +134,29 @@ pub reached_more : (c : ℕ) (cells : List Cell) (i : ℕ) (cell : Cell) (before
 reached_more c cells i cell before now l b h =
     ap₂ ◌||◌ b (h ∙ sym (reached_view c cell)) ∙ sym (reached_push c (cells_view i cells) (cell_view cell)) ∙ ap (rules.reached c) (sym (view_more cell_view cells i cell l))
 
-all_fit_each : (ends : List FarEnd) → ((k : ℕ) → k < length ends → fits (get_or ends k Nowhere) ≡ true) → all_fit ends ≡ true
+all_fit_each : (ends : List (Option (ℕ × ℕ))) → ((k : ℕ) → k < length ends → fits (get_or ends k None) ≡ true) → all_fit ends ≡ true
 all_fit_each [] each = refl
 all_fit_each (end ∷ ends) each = and_from _ _ (each 0 (omega arith)) (all_fit_each ends (λ k h. each (suc k) (omega arith)))
 
 -- A table of far ends of a sound layout fits.
-pub all_fit_from : (layout : Layout) → Sound layout → (ends : List FarEnd) → length ends ≡ 256 →
-    ((k : ℕ) → k < 256 → end_view (get_or ends k Nowhere) ≡ layout.far (k / 4) (k % 4)) → all_fit ends ≡ true
-all_fit_from layout sound ends long each = all_fit_each ends (λ k h. go k (get_or ends k Nowhere) (each k (omega arith)))
+pub all_fit_from : (layout : Layout) → Sound layout → (ends : List (Option (ℕ × ℕ))) → length ends ≡ 256 →
+    ((k : ℕ) → k < 256 → get_or ends k None ≡ layout.far (k / 4) (k % 4)) → all_fit ends ≡ true
+all_fit_from layout sound ends long each = all_fit_each ends (λ k h. go k (get_or ends k None) (each k (omega arith)))
   where
     few : layout.count ≤ 64
     few = sound.few_nodes
 
-    go : (k : ℕ) (end : FarEnd) → end_view end ≡ layout.far (k / 4) (k % 4) → fits end ≡ true
-    go k Nowhere e = refl
-    go k (To m q) e =
+    go : (k : ℕ) (end : Option (ℕ × ℕ)) → end ≡ layout.far (k / 4) (k % 4) → fits end ≡ true
+    go k None e = refl
+    go k (Some (m, q)) e =
         let inside = sound.in_range (k / 4) (k % 4) m q (sym e) in
         let f = few in
         let small : m < 64 = omega arith in
         and_from _ _ (lt-ltb m 64 small) (lt-ltb q 4 inside.1)
 
 -- A table of all far ends of a sound layout spells that layout.
-pub spells_layout : (layout : Layout) → Sound layout → (ends : List FarEnd) →
-    ((k : ℕ) → k < 256 → end_view (get_or ends k Nowhere) ≡ layout.far (k / 4) (k % 4)) → wired layout.count ends ≡ layout
+pub spells_layout : (layout : Layout) → Sound layout → (ends : List (Option (ℕ × ℕ))) →
+    ((k : ℕ) → k < 256 → get_or ends k None ≡ layout.far (k / 4) (k % 4)) → wired layout.count ends ≡ layout
 spells_layout layout sound ends each = ap (λ (far : ℕ → ℕ → Option (ℕ × ℕ)). record { count = layout.count; far = far }) (fun_ext (λ n. fun_ext (λ p. go n p (cases_lt n 64) (cases_lt p 4))))
   where
     nothing_there : (n p : ℕ) → ((m q : ℕ) → layout.far n p ≡ Some (m, q) → ⊥) → None ≡ layout.far n p
@@ -164,3 +180,12 @@ spells_layout layout sound ends each = ap (λ (far : ℕ → ℕ → Option (ℕ
         far_read ends n p hn hp ∙ each (4 * n + p) place ∙ ap₂ layout.far node port
     go n p (inl hn) (inr hp) = rw (le-ltb p 4 hp, lt-ltb n 64 hn) (nothing_there n p (λ m q e. let b = back n p m q e in omega arith))
     go n p (inr hn) other = rw (le-ltb n 64 hn) (nothing_there n p (λ m q e. let b = back n p m q e in let f = few in omega arith))
+
+-- A value handed out if a test holds.
+pub some_if : {X : Type 0} (b : Bool) (x : X) → is_some (then_some b x) ≡ b
+some_if true x = refl
+some_if false x = refl
+
+pub holds_if : {X : Type 0} (P : X → Type 0) (b : Bool) (x : X) → P x → IfSome (then_some b x) P
+holds_if P true x h = h
+holds_if P false x h = tt

@@ -1,24 +1,18 @@
 -- What the code's arrays stand for in the rules.
-use Rattle.std.specs.Prelude.{ℕ, ◌+◌, ◌*◌, Bool, false, cond, ◌&&◌, List, [], map, take, Some, None, Option, ◌==◌, nat_lt, slice_index_or}
+use Rattle.std.specs.Prelude.{ℕ, ◌+◌, ◌*◌, Bool, false, cond, ◌&&◌, List, [], map, take, None, Option, ◌==◌, nat_lt, slice_index_or}
 use Rattle.wiring.specs.Layout.{Layout}
 use Rattle.rules.specs.declared.Mark.{Mark}
 use Rattle.rules.specs.declared.Mark.TheVariants.{Unmarked}
 use Rattle.rules.specs.Flood as rules
 use Rattle.flood.specs.declared.types.Cell.{Cell}
 use Rattle.flood.specs.declared.types.Cell.TheVariants.{Waiting, Deaf, Wrote}
-use Rattle.flood.specs.declared.types.FarEnd.{FarEnd}
-use Rattle.flood.specs.declared.types.FarEnd.TheVariants.{Nowhere, To}
-
-abbrev pub end_view : FarEnd → Option (ℕ × ℕ)
-end_view Nowhere = None
-end_view (To node port) = Some (node, port)
 
 -- The far end of a port in a table of far ends; nothing for a node or port out of range.
-abbrev pub far_in : List FarEnd → ℕ → ℕ → Option (ℕ × ℕ)
-far_in ends n p = cond (nat_lt n 64 && nat_lt p 4) (end_view (slice_index_or ends (4 * n + p) Nowhere)) None
+abbrev pub far_in : List (Option (ℕ × ℕ)) → ℕ → ℕ → Option (ℕ × ℕ)
+far_in ends n p = cond (nat_lt n 64 && nat_lt p 4) (slice_index_or ends (4 * n + p) None) None
 
 -- The layout that a table of far ends spells.
-abbrev pub wired : ℕ → List FarEnd → Layout
+abbrev pub wired : ℕ → List (Option (ℕ × ℕ)) → Layout
 wired count ends = record { count = count; far = far_in ends }
 
 abbrev pub marks_view : List (List Mark) → rules.Marks

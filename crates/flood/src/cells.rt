@@ -1,150 +1,120 @@
 //! One node in one cycle: which ports get a flag, and what it then writes.
-ghost use Rattle.std.specs.Prelude.{◌≡◌, ◌+◌, ◌<◌, not, ◌&&◌, ◌||◌, length};
-ghost use Rattle.rules.specs.Flood.{is_up, is_down, is_marked, all_up, passes_on, sends, gets, next_cell, wrote};
+ghost use Rattle.std.specs.Prelude.{◌≡◌, ◌<◌};
+ghost use Rattle.rules.specs.Flood.{all_up, passes_on, sends, gets, next_cell};
 ghost use Rattle.flood.specs.View.{wired, marks_view, cell_view, cells_view};
 
-use crate::types::{Cell, FarEnd, Marks, Wave};
-use rules::Mark;
+use crate::types::{Cell, Wave};
+use std::array;
 
-// Whether a mark is up.
-fn marked_up(mark: Mark) -> bool
-    ensures { result ≡ is_up mark }
-{
-    match mark {
-        Mark::Unmarked => false,
-        Mark::Up => true,
-        Mark::Down => false,
+/// A broadcast after so many cycles: what it runs over, and what each node knows by then.
+#[derive(Clone, Copy)]
+pub(crate) struct Moment<'a> {
+    pub(crate) wave: &'a Wave,
+    pub(crate) cells: &'a [Cell; 64],
+    pub(crate) cycle: u8,
+    ghost in_time: { cycle < 64 },
+}
+
+// A port of a node.
+#[derive(Clone, Copy)]
+struct Place {
+    node: u8,
+    port: u8,
+    ghost node_few: { node < 64 },
+    ghost port_few: { port < 4 },
+}
+
+// Each clause gives a rule its five arguments in full: a name for the five would hide which rule
+// reads which of them, and the rules take them apart.
+impl Moment<'_> {
+    // Whether every port of the set is marked up at the node.
+    #[tactic(auto, unfolding(rules::specs::Flood::all_up))]
+    fn every_up(&self, node: u8, ports: [bool; 4]) -> bool
+        requires { node < 64 }
+        ensures { result ≡ all_up (marks_view self.now.wave.now.marks) node ports }
+    {
+        let m = self.wave.marks[node as usize];
+        // The four tests as all_up has them.
+        (!ports[0] | m[0].is_up())
+            & (!ports[1] | m[1].is_up())
+            & (!ports[2] | m[2].is_up())
+            & (!ports[3] | m[3].is_up())
     }
-}
 
-// Whether a mark is down.
-fn marked_down(mark: Mark) -> bool
-    ensures { result ≡ is_down mark }
-{
-    match mark {
-        Mark::Unmarked => false,
-        Mark::Up => false,
-        Mark::Down => true,
-    }
-}
-
-// Whether a port is marked at all.
-fn is_marked(mark: Mark) -> bool
-    ensures { result ≡ is_marked mark }
-{
-    match mark {
-        Mark::Unmarked => false,
-        Mark::Up => true,
-        Mark::Down => true,
-    }
-}
-
-// Whether every port of the set is marked up at the node.
-fn every_up(marks: &Marks, node: u8, ports: [bool; 4]) -> bool
-    requires { node < 64 }
-    ensures { result ≡ all_up (marks_view marks.now) node ports }
-{
-    let m = marks[node as usize];
-    (!ports[0] | marked_up(m[0]))
-        & (!ports[1] | marked_up(m[1]))
-        & (!ports[2] | marked_up(m[2]))
-        & (!ports[3] | marked_up(m[3]))
-}
-
-// Whether a flag goes on to a port: to a down port always, to an up port unless every flag came by
-// an up port.
-fn may_pass(down: bool, up: bool, all_up: bool) -> bool
-    ensures { result ≡ (down || (up && not all_up)) }
-{
-    down | up & !all_up
-}
-
-// Whether a node that knows this much sends on port q in cycle c + 1.
-fn forwards(marks: &Marks, c: u8, node: u8, q: u8, cell: Cell) -> bool
-    requires { (node < 64) × (q < 4) }
-    ensures { result ≡ passes_on (marks_view marks.now) c node q (cell_view cell) }
-{
-    match cell {
-        Cell::Waiting => false,
-        Cell::Deaf => false,
-        Cell::Wrote { ports, at } => {
-            if at != c {
-                return false;
+    // Whether a node that knows this much sends on one of its ports in the next cycle: on a port
+    // that got no flag, if it is down, or up and not every flag came by an up port.
+    #[tactic(auto, unfolding(rules::specs::Flood::passes_on))]
+    fn forwards(&self, from: Place, cell: Cell) -> bool
+        ensures { result ≡ passes_on (marks_view self.now.wave.now.marks) self.now.cycle from.node from.port (cell_view cell) }
+    {
+        match cell {
+            Cell::Wrote { ports, at } if at == self.cycle => {
+                let mark = self.wave.marks[from.node as usize][from.port as usize];
+                let passes = mark.is_down() | mark.is_up() & !self.every_up(from.node, ports);
+                !ports[from.port as usize] & passes
             }
-            let mark = marks[node as usize][q as usize];
-            !ports[q as usize]
-                & may_pass(
-                    marked_down(mark),
-                    marked_up(mark),
-                    every_up(marks, node, ports),
-                )
+            _ => false,
         }
     }
-}
 
-// Whether a node sends on port q in cycle c + 1: the owner on its marked ports in cycle 1, any
-// other node as it passes on.
-fn sent(wave: &Wave, cells: &[Cell; 64], c: u8, node: u8, q: u8) -> bool
-    requires { (node < 64) × (q < 4) }
-    ensures { result ≡ sends (marks_view wave.now.marks) wave.now.owner c (cells_view wave.now.count cells.now) node q }
-{
-    if node == wave.owner {
-        return (c == 0) & is_marked(wave.marks[node as usize][q as usize]);
-    }
-    if node >= wave.count {
-        return false;
-    }
-    forwards(&wave.marks, c, node, q, cells[node as usize])
-}
-
-// Whether port p of a node gets a flag in cycle c + 1.
-fn got(wave: &Wave, cells: &[Cell; 64], c: u8, node: u8, p: u8) -> bool
-    requires { (node < 64) × (p < 4) }
-    ensures { result ≡ gets (wired wave.now.count wave.now.ends.at) (marks_view wave.now.marks) wave.now.owner c (cells_view wave.now.count cells.now) node p }
-{
-    let end = wave.ends.at[4 * node as usize + p as usize];
-    match end {
-        FarEnd::Nowhere => false,
-        FarEnd::To { node: far, port } => sent(wave, cells, c, far, port),
-    }
-}
-
-// The cell of a node that these ports got a flag at in cycle c + 1, its first.
-fn reached_cell(ports: [bool; 4], c: u8) -> Cell
-    requires { c < 64 }
-    ensures { cell_view result ≡ wrote ports (c + 1) }
-{
-    Cell::Wrote { ports, at: c + 1 }
-}
-
-// A node ignores what comes after its first flag.
-fn kept_cell(ports: [bool; 4], cycle: u8) -> Cell
-    ensures { cell_view result ≡ wrote ports cycle }
-{
-    Cell::Wrote { ports, at: cycle }
-}
-
-// A node's cell after cycle c + 1.
-pub(crate) fn heard(wave: &Wave, cells: &[Cell; 64], c: u8, node: u8) -> Cell
-    requires { (node < wave.now.count) × (c < 64) }
-    ensures { cell_view result ≡ next_cell (wired wave.now.count wave.now.ends.at) (marks_view wave.now.marks) wave.now.owner c (cells_view wave.now.count cells.now) node }
-{
-    let cell = cells[node as usize];
-    match cell {
-        Cell::Waiting => {
-            let ports = [
-                got(wave, cells, c, node, 0),
-                got(wave, cells, c, node, 1),
-                got(wave, cells, c, node, 2),
-                got(wave, cells, c, node, 3),
-            ];
-            if ports[0] | ports[1] | ports[2] | ports[3] {
-                reached_cell(ports, c)
-            } else {
-                Cell::Waiting
-            }
+    // Whether a node sends on one of its ports in the next cycle: the owner on its marked ports in
+    // the first, any other node as it passes on.
+    #[tactic(auto, using(crate::proofs::Arrays::cell_read, crate::proofs::Arrays::cell_past), unfolding(rules::specs::Flood::sends, rules::specs::Flood::passes_on))]
+    fn sent(&self, from: Place) -> bool
+        ensures { result ≡ sends (marks_view self.now.wave.now.marks) self.now.wave.now.owner self.now.cycle (cells_view self.now.wave.now.count self.now.cells.now) from.node from.port }
+    {
+        let Place { node, port } = from;
+        if node == self.wave.owner {
+            return (self.cycle == 0) & self.wave.marks[node as usize][port as usize].is_marked();
         }
-        Cell::Deaf => cell,
-        Cell::Wrote { ports, at } => kept_cell(ports, at),
+        if node >= self.wave.count {
+            return false;
+        }
+        self.forwards(from, self.cells[node as usize])
+    }
+
+    // Whether a port gets a flag in the next cycle.
+    fn got(&self, to: Place) -> bool
+        ensures { result ≡ gets (wired self.now.wave.now.count self.now.wave.now.ends.at) (marks_view self.now.wave.now.marks) self.now.wave.now.owner self.now.cycle (cells_view self.now.wave.now.count self.now.cells.now) to.node to.port }
+    {
+        // Read at its place: far_end would test again what the place says of node and port.
+        match self.wave.ends.at[4 * to.node as usize + to.port as usize] {
+            None => false,
+            Some((node, port)) => self.sent(Place { node, port }),
+        }
+    }
+
+    /// A node's cell after the next cycle. It ignores what comes after its first flag.
+    pub(crate) fn heard(&self, node: u8) -> Cell
+        requires { node < self.now.wave.now.count }
+        ensures { cell_view result ≡ next_cell (wired self.now.wave.now.count self.now.wave.now.ends.at) (marks_view self.now.wave.now.marks) self.now.wave.now.owner self.now.cycle (cells_view self.now.wave.now.count self.now.cells.now) node }
+    {
+        let cell = self.cells[node as usize];
+        match cell {
+            Cell::Waiting => {
+                let ports: [bool; 4] = array::from_fn(
+                    |port|
+                        requires { (node < 64) × (port < 4) }
+                    {
+                        self.got(Place {
+                            node,
+                            port: port as u8,
+                        })
+                    },
+                );
+                // As some_port has it.
+                if ports[0] | ports[1] | ports[2] | ports[3] {
+                    Cell::Wrote {
+                        ports,
+                        at: self.cycle + 1,
+                    }
+                } else {
+                    cell
+                }
+            }
+            // Case by case, as next_cell has them.
+            Cell::Deaf => cell,
+            Cell::Wrote { .. } => cell,
+        }
     }
 }

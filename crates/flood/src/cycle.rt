@@ -1,53 +1,37 @@
 //! The cycles of a broadcast, up to the first that reaches no new node.
-ghost use Rattle.std.specs.Prelude.{◌≡◌, suc, ◌+◌, ◌<◌, ◌≤◌, false, ◌||◌, length, get_or, if◌then◌else◌, nat_eq, slice_index_or};
+ghost use Rattle.std.specs.Prelude.{◌≡◌, ◌+◌, ◌<◌, ◌≤◌, false, ◌||◌, length, get_or, if◌then◌else◌, nat_eq, slice_index_or, IfSome, is_some};
 ghost use Rattle.rules.specs.Ports.{table};
 ghost use Rattle.rules.specs.Flood.{cycle, reached, spread, waiting, deaf as deaf-cell};
 ghost use Rattle.flood.specs.View.{wired, marks_view, cell_view, cells_view, reached_by};
 
-use crate::cells::heard;
+use crate::cells::Moment;
 use crate::types::{Cell, Spread, Wave};
+use std::array;
 
-// Whether a cell was written in cycle c.
-fn written_in(cell: Cell, c: u8) -> bool
-    ensures { result ≡ reached_by c cell }
+// Whether a cell was written in this cycle.
+fn written_in(cell: &Cell, cycle: u8) -> bool
+    ensures { result ≡ reached_by cycle cell.now }
 {
-    match cell {
-        Cell::Waiting => false,
-        Cell::Deaf => false,
-        Cell::Wrote { ports: _, at } => at == c,
-    }
+    matches!(cell, Cell::Wrote { at, .. } if *at == cycle)
 }
 
-// One cycle: the cells after it, and whether it reached a node.
-#[derive(Clone, Copy)]
-struct Cycled {
-    cells: [Cell; 64],
-    reached: bool,
-}
-
-fn one_cycle(wave: &Wave, cells: &[Cell; 64], c: u8) -> Cycled
-    requires { c < 64 }
-    ensures cells { cells_view wave.now.count result.cells ≡ cycle (wired wave.now.count wave.now.ends.at) (marks_view wave.now.marks) wave.now.owner c (cells_view wave.now.count cells.now) }
-    ensures reached { result.reached ≡ reached (c + 1) (cells_view wave.now.count result.cells) }
-    ensures long { length result.cells ≡ 64 }
-{
-    let mut next = [Cell::Waiting; 64];
-    let mut reached = false;
-    for node in 0..wave.count {
-        let cell = heard(wave, cells, c, node);
-        next[node as usize] = cell;
-        reached = reached | written_in(cell, c + 1);
+impl Moment<'_> {
+    // The cells after the next cycle, if it reaches a node.
+    fn next(&self) -> Option<[Cell; 64]>
+        ensures reached { is_some result ≡ reached (self.now.cycle + 1) (cycle (wired self.now.wave.now.count self.now.wave.now.ends.at) (marks_view self.now.wave.now.marks) self.now.wave.now.owner self.now.cycle (cells_view self.now.wave.now.count self.now.cells.now)) }
+        ensures cells { IfSome result (λ next. cells_view self.now.wave.now.count next ≡ cycle (wired self.now.wave.now.count self.now.wave.now.ends.at) (marks_view self.now.wave.now.marks) self.now.wave.now.owner self.now.cycle (cells_view self.now.wave.now.count self.now.cells.now)) }
+        ensures long { IfSome result (λ next. length next ≡ 64) }
+    {
+        let mut next = [Cell::Waiting; 64];
+        let mut reached = false;
+        // One pass writes the cells and sees whether one was reached.
+        for node in 0..self.wave.count {
+            let cell = self.heard(node);
+            next[node as usize] = cell;
+            reached |= written_in(&cell, self.cycle + 1);
+        }
+        reached.then_some(next)
     }
-    Cycled {
-        cells: next,
-        reached,
-    }
-}
-
-fn first_cell(ignores: bool) -> Cell
-    ensures { cell_view result ≡ (if ignores then deaf-cell else waiting) }
-{
-    if ignores { Cell::Deaf } else { Cell::Waiting }
 }
 
 // The cells before the first cycle: the owner and the deaf nodes ignore flags, the others wait.
@@ -56,11 +40,18 @@ fn start(owner: u8, deaf: &[bool; 64], count: u8) -> [Cell; 64]
     ensures cells { cells_view count result ≡ table count (λ n. (if nat_eq n owner || slice_index_or deaf.now n false then deaf-cell else waiting)) }
     ensures long { length result ≡ 64 }
 {
-    let mut cells = [Cell::Waiting; 64];
-    for node in 0..count {
-        cells[node as usize] = first_cell((node == owner) | deaf[node as usize]);
-    }
-    cells
+    array::from_fn(
+        |node| -> Cell
+            requires { node < 64 }
+            ensures { cell_view result ≡ (if nat_eq node owner || slice_index_or deaf.entry.now node false then deaf-cell else waiting) }
+        {
+            if (node == owner as usize) | deaf[node] {
+                Cell::Deaf
+            } else {
+                Cell::Waiting
+            }
+        },
+    )
 }
 
 /// The broadcast of the wave's owner to the nodes that are not deaf: what each node wrote, and
@@ -69,20 +60,25 @@ pub fn broadcast(wave: &Wave, deaf: &[bool; 64]) -> Spread
     ensures value { spread (wired wave.now.count wave.now.ends.at) (marks_view wave.now.marks) wave.now.owner (λ n. get_or deaf.now n false) ≡ record { cells = cells_view wave.now.count result.cells; cycles = result.cycles } }
     ensures long { length result.cells ≡ 64 }
 {
-    let count = wave.count;
-    let mut cells = start(wave.owner, deaf, count);
-    let mut c = 0;
+    let mut cells = start(wave.owner, deaf, wave.count);
+    let mut cycle = 0;
+    // The loop yields how many cycles reached a node.
     let cycles = 'cycle: loop {
-        if c >= count {
-            break 'cycle c;
+        if cycle >= wave.count {
+            break 'cycle cycle;
         }
-        let after = one_cycle(wave, &cells, c);
-        let reached = after.reached;
-        if !reached {
-            break 'cycle c;
+        let moment = Moment {
+            wave,
+            cells: &cells,
+            cycle,
+        };
+        match moment.next() {
+            Some(next) => {
+                cells = next;
+                cycle += 1;
+            }
+            None => break 'cycle cycle,
         }
-        cells = after.cells;
-        c += 1;
     };
     Spread { cells, cycles }
 }

@@ -1,32 +1,28 @@
 //! The far ends of all ports, asked from a wiring.
 ghost use Rattle.std.specs.Prelude.{◌≡◌};
-ghost use Rattle.flood.specs.View.{end_view, wired};
+ghost use Rattle.flood.specs.View.{wired, far_in};
 
-use crate::types::{Ends, FarEnd};
+use crate::types::Ends;
+use std::array;
 use wiring::Wiring;
-
-// Where the cable of one port leads.
-fn ask<W: Wiring>(wiring: &W, node: u8, port: u8) -> FarEnd
-    ensures { end_view result ≡ (W.Wiring.layout wiring.now).far node port }
-{
-    match wiring.far_end(node, port) {
-        None => FarEnd::Nowhere,
-        Some((far, far_port)) => FarEnd::To {
-            node: far,
-            port: far_port,
-        },
-    }
-}
 
 impl Ends {
     /// The far ends of all ports of a wiring.
     pub fn of<W: Wiring>(wiring: &W) -> Ends
         ensures { wired (W.Wiring.layout wiring.now).count result.at ≡ W.Wiring.layout wiring.now }
     {
-        let mut at = [FarEnd::Nowhere; 256];
-        for place in 0..256usize {
-            at[place] = ask(wiring, (place / 4) as u8, (place % 4) as u8);
-        }
+        let at = array::from_fn(|place| wiring.far_end((place / 4) as u8, (place % 4) as u8));
         Ends { at }
+    }
+
+    /// The far end of a port of a node; out of range nothing.
+    pub fn far_end(&self, node: u8, port: u8) -> Option<(u8, u8)>
+        ensures { result ≡ far_in self.now.at node port }
+    {
+        if (node < 64) & (port < 4) {
+            self.at[4 * node as usize + port as usize]
+        } else {
+            None
+        }
     }
 }

@@ -7,4 +7,4 @@ mod ends;
 mod types;
 
 pub use cycle::broadcast;
-pub use types::{Cell, Ends, FarEnd, Marks, Spread, Wave};
+pub use types::{Cell, Ends, Marks, Spread, Wave};

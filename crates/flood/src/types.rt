@@ -7,17 +7,11 @@ use rules::Mark;
 /// The marks of all ports, by node and port.
 pub type Marks = [[Mark; 4]; 64];
 
-/// Where a port's cable leads: nowhere, or to a port of another node.
-#[derive(Clone, Copy)]
-pub enum FarEnd {
-    Nowhere,
-    To { node: u8, port: u8 },
-}
-
-/// Where the cable of each port leads, at place 4 * node + port.
+/// The far end of each port, a node and a port of it, at place 4 * node + port; none where no
+/// cable is.
 #[derive(Clone, Copy)]
 pub struct Ends {
-    pub at: [FarEnd; 256],
+    pub at: [Option<(u8, u8)>; 256],
     ghost in_range: { all_fit at ≡ true },
 }
 

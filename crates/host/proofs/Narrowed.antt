@@ -1,11 +1,11 @@
 -- A node's number that does not fit a byte is refused as 255 is, since no wall has so many nodes.
 use Rattle.std.proofs.Common.{◌≡◌, ℕ, ◌<◌, ◌≤◌, min, ◌⊎◌, List, Ok, Err, Result, sym, refl, ap, ◌∙◌, subst, inl, inr, arith}
+use Rattle.std.specs.Result.{OkIff, result_unwrap_or}
 use native.Mathlib.Nat.{min-eq_left, min-eq_right}
 use Rattle.std.proofs.lemmas.Bool.{cases_lt, le-leb}
 use Rattle.fault.specs.declared.HeaderFault.{HeaderFault}
 use Rattle.fault.specs.declared.WallFault.{WallFault}
 use Rattle.rules.specs.declared.Refusal.TheVariants.{NodeOutOfRange}
-use Rattle.page.specs.declared.types.PageFault.{PageFault}
 use Rattle.page.specs.declared.types.PageFault.TheVariants.{Call}
 use Rattle.page.specs.Pages.{file_answer, file_page_text}
 use Rattle.wiring.specs.Layout.{Layout}
@@ -13,18 +13,20 @@ use Rattle.wiring.specs.Cables.{Table}
 use Rattle.wiring.specs.File.{read_table, read_file}
 use Rattle.wiring.proofs.Spelled.{read_spelling, file_read, file_refused}
 
+-- The byte that a node's number is narrowed to.
+pub narrowed : {E : Type 0} (node : ℕ) (r : Result ℕ E) → OkIff r (node < 256) node → result_unwrap_or r 255 ≡ min node 255
+narrowed node (Ok byte) h = omega (arith, h.0, h.1)
+narrowed node (Err e) h = omega (arith, h)
+
 pub few_nodes : (file : List ℕ) (l : Layout) → read_file file ≡ Ok l → l.count ≤ 64
 few_nodes file l e = go (read_table file) refl
   where
     ok_one : {a b : Layout} → ◌≡◌ {A = Result Layout WallFault} (Ok a) (Ok b) → a ≡ b
     ok_one e = cc
 
-    ok_err : {a : Layout} {b : WallFault} → ◌≡◌ {A = Result Layout WallFault} (Ok a) (Err b) → ⊥
-    ok_err e = let z : ◌≡◌ {A = ℕ} 0 1 = cc in omega arith
-
     go : (r : Result Table HeaderFault) → read_table file ≡ r → l.count ≤ 64
     go (Ok ends) t = subst (λ (x : Layout). x.count ≤ 64) (ok_one (sym (file_read file ends t) ∙ e)) (read_spelling file ends t).spells.few_nodes
-    go (Err f) t = absurd (ok_err (sym e ∙ file_refused file f t))
+    go (Err f) t = cc (file_refused file f t)
 
 past_the_nodes : (l : Layout) (node room : ℕ) → l.count ≤ node → file_answer (Ok l) node room ≡ Err (Call NodeOutOfRange)
 past_the_nodes l node room h = simp (le-leb l.count node h)
@@ -56,7 +58,4 @@ module _ (node room : ℕ) where
       go (inl h) = ap (λ (n : ℕ). file_page_text (Ok l) n) (min-eq_left {n = node} {m = 255} (omega arith))
       go (inr h) =
           let small = few l refl in
-          absurd (ok_err (sym e ∙ past_the_nodes l node room (omega arith)))
-        where
-          ok_err : {a : ℕ} {b : PageFault} → ◌≡◌ {A = Result ℕ PageFault} (Ok a) (Err b) → ⊥
-          ok_err e = let z : ◌≡◌ {A = ℕ} 0 1 = cc in omega arith
+          cc (past_the_nodes l node room (omega arith))

@@ -17,9 +17,9 @@ abbrev by_tests : (past tight : Bool) (long : ℕ) → Result ℕ PageFault
 by_tests past tight long = on_err (cond past (Err NodeOutOfRange) (cond tight (Err TrayTooSmall) (Ok long))) Call
 
 tight_only : (past tight : Bool) (long : ℕ) → tight ≡ false → by_tests past tight long ≡ Err (Call TrayTooSmall) → ⊥
-tight_only true tight long f e = let z : ◌≡◌ {A = ℕ} 0 1 = cc in omega arith
-tight_only false true long f e = let z : ◌≡◌ {A = ℕ} 0 1 = cc in omega arith
-tight_only false false long f e = let z : ◌≡◌ {A = ℕ} 0 1 = cc in omega arith
+tight_only true tight long f e = cc
+tight_only false true long f e = cc
+tight_only false false long f e = cc
 
 long_only : (past tight : Bool) (long : ℕ) → long ≤ 2048 → IfOk (by_tests past tight long) (λ n. n ≤ 2048)
 long_only true tight long h = tt
@@ -46,7 +46,7 @@ module _ (file : List ℕ) (node room : ℕ) where
       go (Ok l) e refused =
           let fits = page_fits l e in
           tight_only (leb l.count node) (ltb room (length (file_page_text (Ok l) node))) _ (le-ltb room (length (file_page_text (Ok l) node)) (omega arith)) refused
-      go (Err f) e refused = let z : ◌≡◌ {A = ℕ} 0 1 = cc in omega arith
+      go (Err f) e refused = cc
 
 pub short_answer :
     (file : List ℕ) (node room : ℕ) (r : Result ℕ PageFault) →

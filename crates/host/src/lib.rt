@@ -5,7 +5,7 @@
 //! said in `specs/Host.antt`, by the definitions of the pages themselves.
 #![tactic(auto)]
 
-ghost use Rattle.std.specs.Prelude.{◌≡◌, ◌≤◌, min, length, IfOk};
+ghost use Rattle.std.specs.Prelude.{◌≡◌, ◌≤◌, length, IfOk};
 ghost use Rattle.host.specs.Host.{told, asked, place_after, Enough};
 
 use page::{PageFault, page_of_file};
@@ -34,14 +34,9 @@ fn write_page(file: &[u8], node: u32, out: &mut [u8]) -> Result<usize, PageFault
     ensures enough { Enough 2048 }
 {
     let mut tray = Tray::new(out);
-    page_of_file(file, narrow(node), &mut tray)
-}
-
-// A node's number in a byte. One that does not fit is taken for 255, which is no node of any wall.
-fn narrow(node: u32) -> u8
-    ensures { result ≡ min node 255 }
-{
-    if node < 255 { node as u8 } else { 255 }
+    // A number that does not fit a byte is taken for 255, which is no node of any wall.
+    let node = u8::try_from(node).unwrap_or(255);
+    page_of_file(file, node, &mut tray)
 }
 
 // The answer as the host gets it.

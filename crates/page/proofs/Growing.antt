@@ -1,6 +1,7 @@
--- A page that grows by an entry, and a wall's text that grows by a page.
-use Rattle.std.proofs.Common.{◌≡◌, ℕ, ◌+◌, ◌*◌, ◌<◌, Bool, true, false, ◌||◌, leb, List, Ok, Err, Option, Result, sym, ap, ◌∙◌, add-one, arith}
+-- A line that grows by a port, a page that grows by an entry, and a wall's text that grows by a page.
+use Rattle.std.proofs.Common.{◌≡◌, ℕ, zero, suc, ◌+◌, ◌*◌, ◌<◌, Bool, true, false, cond, ◌||◌, leb, List, [], ◌∷◌, ◌++◌, Ok, Err, Option, Result, sym, ap, ◌∙◌, add-one, arith}
 use Rattle.wiring.specs.Layout.{Layout}
+use Rattle.chooser.specs.PortSets.{has}
 use Rattle.chooser.specs.declared.ports.PortSet.{PortSet}
 use Rattle.tray.specs.declared.types.Tray.{Tray}
 use Rattle.tray.specs.Filled.{filled}
@@ -8,13 +9,44 @@ use Rattle.rules.specs.declared.Refusal.{Refusal}
 use Rattle.rules.specs.State.{State, Node, entry_of}
 use Rattle.wall.specs.Answers.{checked, entry_pair, entry_answer}
 use Rattle.page.specs.Sheet.{Writes}
-use Rattle.pagetext.specs.Text.{with_entry, with_entries, with_page, with_pages}
+use Rattle.pagetext.specs.Text.{with_port, with_ports, with_entry, with_entries, with_page, with_pages}
 use Rattle.page.specs.Call.{Composed}
 use Rattle.page.proofs.Writing.{writes_none, writes_more, writes_same}
 
+-- The digits of the ports below k.
+unfoldable pub first_ports : List ℕ → PortSet → ℕ → List ℕ
+first_ports before ports zero = before
+first_ports before ports (suc k) = with_port (first_ports before ports k) ports k
+
+module _ (ports : PortSet) (a : Tray ℕ) where
+  pub no_ports : Writes 0 (first_ports (filled a) ports 0) a a
+  unfolding first_ports
+  no_ports = writes_none a
+
+  pub more_ports :
+      (k : ℕ) (b c : Tray ℕ) →
+      Writes k (first_ports (filled a) ports k) a b →
+      Writes 1 (with_port (filled b) ports k) b c →
+      Writes (k + 1) (first_ports (filled a) ports (k + 1)) a c
+  unfolding first_ports
+  more_ports k b c p q =
+      writes_same (writes_more p q) (omega arith)
+      (ap (λ text. with_port text ports k) p.text_is ∙ ap (λ n. first_ports (filled a) ports n) (sym (add-one k)))
+
+  pub all_ports : (k : ℕ) (b : Tray ℕ) → k ≡ 4 → Writes k (first_ports (filled a) ports k) a b → Writes 4 (with_ports (filled a) ports) a b
+  unfolding first_ports
+  all_ports k b e p = writes_same p (omega arith) (ap (λ n. first_ports (filled a) ports n) e)
+
+-- A port's digit, where the port is in the set.
+pub port_in : (ports : PortSet) (k : ℕ) (b c : Tray ℕ) → has ports k ≡ true → Writes 1 (filled b ++ ((48 + k) ∷ [])) b c → Writes 1 (with_port (filled b) ports k) b c
+port_in ports k b c e p = writes_same p (omega arith) (ap (λ t. cond t (filled b ++ ((48 + k) ∷ [])) (filled b)) (sym e))
+
+pub port_out : (ports : PortSet) (k : ℕ) (b : Tray ℕ) → has ports k ≡ false → Writes 1 (with_port (filled b) ports k) b b
+port_out ports k b e = writes_same (writes_none b) (omega arith) (ap (λ t. cond t (filled b ++ ((48 + k) ∷ [])) (filled b)) (sym e))
+
 -- The value of an accepted question.
 pub checked_value : {T : Type 0} (b : Bool) (x value : T) → Ok x ≡ checked b value → x ≡ value
-checked_value true x value e = let z : ◌≡◌ {A = ℕ} 0 1 = cc in absurd (omega arith)
+checked_value true x value e = cc
 checked_value false x value e = cc
 
 module _ (nodes : List Node) (node : ℕ) (a : Tray ℕ) where

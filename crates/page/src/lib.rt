@@ -1,6 +1,6 @@
 //! The page of a node: a line with its number, mode, root and marks, and a line for each entry of its table. A page
-//! goes into a byte tray, whole or not at all; `pages` makes what is printed of a wall file. specs/Text.antt has every
-//! text.
+//! goes into a byte tray, whole or not at all; `pages` makes what is printed of a wall file.
+//! pagetext/specs/Text.antt has every text.
 #![tactic(auto)]
 
 mod file;

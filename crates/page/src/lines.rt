@@ -1,12 +1,12 @@
-//! The lines of a page. specs/Text.antt has every text.
+//! The lines of a page. pagetext/specs/Text.antt has every text.
 ghost use Rattle.std.specs.Prelude.{◌<◌, ◌≤◌, ◌++◌, length};
 ghost use Rattle.tray.specs.Filled.{filled, rest};
 ghost use Rattle.page.specs.Sheet.{Writes};
 ghost use Rattle.pagetext.specs.Laws.{ByteRoot, ByteCount};
-ghost use Rattle.pagetext.specs.Text.{numeral, root_text, marks_text, with_node, with_port, with_ports, with_line, with_entry};
+ghost use Rattle.pagetext.specs.Text.{numeral, root_text, marks_text, with_node, with_ports, with_line, with_entry};
 
-use crate::numbers::{put_byte_number, put_short_number};
-use crate::sheet::{put_byte, put_text};
+use crate::numbers::put_number;
+use crate::sheet::put_text;
 use chooser::PortSet;
 use rules::{Mark, Mode};
 use tray::Tray;
@@ -17,10 +17,9 @@ fn put_root(sheet: &mut Tray<u8>, mode: Mode)
     ensures written { Writes 3 (filled sheet.old ++ root_text mode) sheet.old sheet.new }
     ensures byte { ByteRoot mode }
 {
-    match mode {
-        Mode::New => put_text(sheet, b"-"),
-        Mode::Recovering { root, left: _ } => put_byte_number(sheet, root),
-        Mode::Serving { root } => put_byte_number(sheet, root),
+    match mode.root() {
+        None => put_text(sheet, b"-"),
+        Some(root) => put_number::<3>(sheet, u16::from(root)),
     }
 }
 
@@ -29,13 +28,7 @@ fn put_marks(sheet: &mut Tray<u8>, marks: [Mark; 4])
     requires { 4 ≤ length (rest sheet.old) }
     ensures { Writes 4 (filled sheet.old ++ marks_text marks) sheet.old sheet.new }
 {
-    let letters = [
-        marks[0].letter(),
-        marks[1].letter(),
-        marks[2].letter(),
-        marks[3].letter(),
-    ];
-    put_text(sheet, &letters);
+    put_text(sheet, &marks.map(|mark| mark.letter()));
 }
 
 // Writes the first line of a page.
@@ -46,9 +39,9 @@ pub(crate) fn put_node(sheet: &mut Tray<u8>, node: u8, mode: Mode, marks: [Mark;
     ensures byte { ByteRoot mode }
 {
     put_text(sheet, b"NODE ");
-    put_short_number(sheet, node);
+    put_number::<2>(sheet, u16::from(node));
     put_text(sheet, b" ");
-    put_byte(sheet, mode.letter());
+    put_text(sheet, &[mode.letter()]);
     put_text(sheet, b" ROOT ");
     put_root(sheet, mode);
     put_text(sheet, b" MARK ");
@@ -56,26 +49,16 @@ pub(crate) fn put_node(sheet: &mut Tray<u8>, node: u8, mode: Mode, marks: [Mark;
     put_text(sheet, b"\n");
 }
 
-// Writes a port's digit, if the port is in the set.
-fn put_port(sheet: &mut Tray<u8>, ports: PortSet, port: u8)
-    requires small { port < 4 }
-    requires free { 1 ≤ length (rest sheet.old) }
-    ensures { Writes 1 (with_port (filled sheet.old) ports port) sheet.old sheet.new }
-{
-    if ports.contains(port) {
-        put_byte(sheet, b'0' + port);
-    }
-}
-
 // Writes the ports of a set as ascending digits.
 fn put_ports(sheet: &mut Tray<u8>, ports: PortSet)
     requires { 4 ≤ length (rest sheet.old) }
     ensures { Writes 4 (with_ports (filled sheet.old) ports) sheet.old sheet.new }
 {
-    put_port(sheet, ports, 0);
-    put_port(sheet, ports, 1);
-    put_port(sheet, ports, 2);
-    put_port(sheet, ports, 3);
+    for port in 0..4 {
+        if ports.contains(port) {
+            put_text(sheet, &[b'0' + port]);
+        }
+    }
 }
 
 // Writes the line of an entry.
@@ -86,11 +69,11 @@ fn put_line(sheet: &mut Tray<u8>, destination: u8, ports: PortSet, count: u8)
     ensures byte { count < 256 }
 {
     put_text(sheet, b"TO ");
-    put_short_number(sheet, destination);
+    put_number::<2>(sheet, u16::from(destination));
     put_text(sheet, b" PORT ");
     put_ports(sheet, ports);
     put_text(sheet, b" HOPS ");
-    put_byte_number(sheet, count);
+    put_number::<3>(sheet, u16::from(count));
     put_text(sheet, b"\n");
 }
 

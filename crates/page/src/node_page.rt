@@ -10,7 +10,7 @@ ghost use Rattle.pagetext.specs.Text.{page_text};
 use crate::lines::{put_entry, put_node};
 use chooser::Chooser;
 use rules::Refusal;
-use tray::{Tray, TrayFull};
+use tray::Tray;
 use wall::Wall;
 use wiring::Wiring;
 
@@ -18,6 +18,7 @@ use wiring::Wiring;
 pub const PAGE_MAX: usize = 1629;
 
 // Writes the page of a node on a sheet. The text stands whole only where the node is in range.
+// No Model of Wall: its view could not name a member of a bound.
 pub(crate) fn compose<W: Wiring, C: Chooser>(
     wall: &Wall<W, C>,
     node: u8,
@@ -56,8 +57,6 @@ pub fn page<W: Wiring, C: Chooser>(
     let mut sheet = Tray::new(&mut bytes);
     compose(wall, node, &mut sheet)?;
     let text = sheet.as_slice();
-    match tray.put_all(text) {
-        Ok(()) => Ok(text.len()),
-        Err(TrayFull) => Err(Refusal::TrayTooSmall),
-    }
+    tray.put_all(text).map_err(|_| Refusal::TrayTooSmall)?;
+    Ok(text.len())
 }

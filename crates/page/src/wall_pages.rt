@@ -1,5 +1,5 @@
 //! What is printed of a wall file: the pages of every node, or why there are none.
-ghost use Rattle.std.specs.Prelude.{◌≡◌, ◌<◌, ◌≤◌, length};
+ghost use Rattle.std.specs.Prelude.{◌≡◌, ◌<◌, ◌≤◌, length, is_ok};
 ghost use Rattle.tray.specs.Filled.{filled, rest};
 ghost use Rattle.wiring.specs.File.{read_file};
 ghost use Rattle.wall.specs.View.{state_of};
@@ -7,15 +7,15 @@ ghost use Rattle.page.specs.Sheet.{Writes};
 ghost use Rattle.pagetext.specs.Text.{with_wall, with_pages, with_refused};
 ghost use Rattle.page.specs.Pages.{printed_text, Prints, PagesCall};
 
+use crate::file::wall_of;
 use crate::node_page::compose;
-use crate::numbers::{put_byte_number, put_long_number, put_short_number};
-use crate::powered::settled;
+use crate::numbers::put_number;
 use crate::sheet::put_text;
-use chooser::{Chooser, LowestPort};
+use chooser::Chooser;
 use fault::WallFault;
 use tray::{Tray, TrayFull};
 use wall::Wall;
-use wiring::{CableList, Wiring};
+use wiring::Wiring;
 
 /// The most bytes that are printed of a wall: 8 for its first line, and 64 pages.
 pub const WALL_MAX: usize = 104264;
@@ -27,7 +27,7 @@ fn put_wall(sheet: &mut Tray<u8>, count: u8)
     ensures { Writes 8 (with_wall (filled sheet.old) count) sheet.old sheet.new }
 {
     put_text(sheet, b"WALL ");
-    put_short_number(sheet, count);
+    put_number::<2>(sheet, u16::from(count));
     put_text(sheet, b"\n");
 }
 
@@ -37,9 +37,9 @@ fn put_refused(sheet: &mut Tray<u8>, fault: WallFault)
     ensures { Writes 21 (with_refused (filled sheet.old) fault) sheet.old sheet.new }
 {
     put_text(sheet, b"REFUSED ");
-    put_byte_number(sheet, fault.number());
+    put_number::<3>(sheet, u16::from(fault.number()));
     put_text(sheet, b" AT ");
-    put_long_number(sheet, fault.place());
+    put_number::<5>(sheet, fault.place());
     put_text(sheet, b"\n");
 }
 
@@ -49,24 +49,27 @@ fn put_pages<W: Wiring, C: Chooser>(sheet: &mut Tray<u8>, wall: &Wall<W, C>)
     ensures { Writes 104256 (with_pages (filled sheet.old) (W.Wiring.layout wall.now.wiring).count (state_of (W.Wiring.layout wall.now.wiring) wall.now.core).nodes (W.Wiring.layout wall.now.wiring).count) sheet.old sheet.new }
 {
     for node in 0..wall.node_count() {
+        // The node is one of the wall's, so it is not refused.
         let _ = compose(wall, node, sheet);
     }
 }
 
-// Writes what is printed of a file, and says whether the file is good.
-fn put_file(sheet: &mut Tray<u8>, file: &[u8]) -> bool
+// Writes what is printed of a file. Of a refused file the answer is its fault.
+fn put_file(sheet: &mut Tray<u8>, file: &[u8]) -> Result<(), WallFault>
     requires { 104264 ≤ length (rest sheet.old) }
-    ensures { Prints (read_file file.now) result sheet.old sheet.new }
+    ensures { Prints (read_file file.now) (is_ok result) sheet.old sheet.new }
 {
-    let mut list = CableList::new();
-    if let Err(fault) = list.read(file) {
-        put_refused(sheet, fault);
-        return false;
+    match wall_of(file) {
+        Ok(wall) => {
+            put_wall(sheet, wall.node_count());
+            put_pages(sheet, &wall);
+            Ok(())
+        }
+        Err(fault) => {
+            put_refused(sheet, fault);
+            Err(fault)
+        }
     }
-    let wall = settled(list, LowestPort::new());
-    put_wall(sheet, wall.node_count());
-    put_pages(sheet, &wall);
-    true
 }
 
 /// Puts what is printed of a wall file into a tray: the count of its nodes and the page of each, after 2N - 1 slots with
@@ -83,9 +86,7 @@ pub fn pages(file: &[u8], tray: &mut Tray<u8>) -> Result<bool, TrayFull>
 {
     let mut bytes = [0; WALL_MAX];
     let mut sheet = Tray::new(&mut bytes);
-    let good = put_file(&mut sheet, file);
-    match tray.put_all(sheet.as_slice()) {
-        Ok(()) => Ok(good),
-        Err(full) => Err(full),
-    }
+    let good = put_file(&mut sheet, file).is_ok();
+    tray.put_all(sheet.as_slice())?;
+    Ok(good)
 }

@@ -2,7 +2,7 @@
 //! refused. The status is 0 for a good file and 1 for a refused one.
 #![tactic(auto)]
 
-use anyhow::anyhow;
+use anyhow::{anyhow, ensure};
 use page::{WALL_MAX, pages};
 use std::io::{Read, Write};
 use tray::Tray;
@@ -16,13 +16,10 @@ fn main(rt: HostRuntime) -> anyhow::Result<()> {
     rt.stdin().take(MOST).read_to_end(&mut file)?;
     let mut bytes = [0; WALL_MAX];
     let mut out = Tray::new(&mut bytes);
-    let Ok(good) = pages(file.as_slice(), &mut out) else {
-        return Err(anyhow!("there is no room for the pages"));
-    };
+    let good = pages(file.as_slice(), &mut out).map_err(|_| anyhow!(
+        "there is no room for the pages"
+    ))?;
     rt.stdout().write_all(out.as_slice())?;
-    if good {
-        Ok(())
-    } else {
-        Err(anyhow!("the file is refused"))
-    }
+    ensure!(good, "the file is refused");
+    Ok(())
 }

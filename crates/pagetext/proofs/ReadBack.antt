@@ -2,7 +2,9 @@
 use Rattle.std.proofs.Common.{◌≡◌, ℕ, zero, suc, ◌<◌, ◌≤◌, Bool, true, false, cond, eqb, List, [], ◌∷◌, ◌++◌, map, get_or, Some, None, Option, sym, refl, ap, ◌∙◌, ⊎_elim, arith}
 use Rattle.std.proofs.lemmas.List.{map-append}
 use Rattle.std.proofs.lemmas.Bool.{eq-eqb, ne_eqb, cases_eq, cond-true, cond-false}
+use Rattle.chooser.specs.PortSets.{has, ports_where}
 use Rattle.chooser.specs.declared.ports.PortSet.{PortSet}
+use Rattle.chooser.proofs.PortSets.{told as ports_told}
 use Rattle.rules.specs.declared.Mark.{Mark}
 use Rattle.rules.specs.declared.Mark.TheVariants.{Unmarked, Up, Down}
 use Rattle.rules.specs.declared.Mode.{Mode}
@@ -29,10 +31,13 @@ mark_back Down = refl
 marks_back : (marks : List Mark) → map mark_said (marks_text marks) ≡ four_marks marks
 marks_back marks = λ i. mark_back (get_or marks 0 Unmarked) i ∷ mark_back (get_or marks 1 Unmarked) i ∷ mark_back (get_or marks 2 Unmarked) i ∷ mark_back (get_or marks 3 Unmarked) i ∷ []
 
-abbrev set : (north east south west : Bool) → PortSet
-set north east south west = record { north = north; east = east; south = south; west = west }
+abbrev four_digits : (a b c d : Bool) → List ℕ
+four_digits a b c d = cond a (48 ∷ []) [] ++ cond b (49 ∷ []) [] ++ cond c (50 ∷ []) [] ++ cond d (51 ∷ []) []
 
-set_back : (a b c d : Bool) → ports_said (port_digits (set a b c d)) ≡ set a b c d
+abbrev holding : (a b c d : Bool) → PortSet
+holding a b c d = ports_where (λ p. get_or (a ∷ b ∷ c ∷ d ∷ []) p false)
+
+set_back : (a b c d : Bool) → ports_said (four_digits a b c d) ≡ holding a b c d
 set_back true true true true = refl
 set_back true true true false = refl
 set_back true true false true = refl
@@ -51,7 +56,7 @@ set_back false false false true = refl
 set_back false false false false = refl
 
 ports_back : (ports : PortSet) → ports_said (port_digits ports) ≡ ports
-ports_back ports = set_back ports.north ports.east ports.south ports.west
+ports_back ports = set_back (has ports 0) (has ports 1) (has ports 2) (has ports 3) ∙ sym (ports_told ports)
 
 line_back : (d : ℕ) (ports : PortSet) (count : ℕ) → d < 256 → count < 256 → line_said (line_words d ports count) ≡ record { destination = d; ports = ports; count = count }
 line_back d ports count h k =
@@ -99,7 +104,7 @@ cond_before true a b c x h e = e
 cond_before false a b c x h e = h e
 
 cond_after : {X : Type 0} (t : Bool) (a : X) (b c x : Option X) → (b ≡ None → c ≡ x) → cond t (Some a) b ≡ None → cond t (Some a) c ≡ x
-cond_after true a b c x h e = let z : ◌≡◌ {A = ℕ} 0 1 = cc in absurd (omega arith)
+cond_after true a b c x h e = cc
 cond_after false a b c x h e = h e
 
 told_before : (d : ℕ) (xs : List Line) (x : Option (PortSet × ℕ)) (ys : List Line) → told d xs ≡ x → told d ys ≡ None → told d (xs ++ ys) ≡ x

@@ -5,11 +5,13 @@
 ghost use Rattle.pagetext.specs.Laws.{DecimalLaw, ReadBackLaw, SamePageLaw};
 
 /// The numbers on pages are written as decimals.
+#[tactic(auto, using(crate::proofs::Figures::decimals))]
 pub fn numbers_are_decimal()
     ensures { DecimalLaw }
 {}
 
 /// A page can be read back: its bytes say the number, mode, root, marks and entries of its node.
+#[tactic(auto, using(crate::proofs::ReadBack::reads_back))]
 pub fn page_reads_back()
     ensures { ReadBackLaw }
 {}

@@ -1,5 +1,5 @@
 -- What a wall answers about a number brought down to 255 is what it answers about the number.
-use Rattle.std.proofs.Common.{◌≡◌, ℕ, ◌<◌, ◌≤◌, min, Bool, leb, ◌⊎◌, List, Decides, Option, Result, sym, ap, ◌∙◌, subst, ap₂, inl, inr, arith}
+use Rattle.std.proofs.Common.{◌≡◌, ℕ, ◌<◌, ◌≤◌, min, Bool, leb, ◌⊎◌, List, Decides, Ok, Option, Result, sym, ap, ◌∙◌, subst, ap₂, inl, inr, arith}
 use Rattle.std.proofs.lemmas.Bool.{cases_lt, le-leb, or_left, or_right}
 use Rattle.wiring.specs.Layout.{Layout}
 use Rattle.chooser.specs.declared.ports.PortSet.{PortSet}
@@ -41,7 +41,7 @@ module _ (layout : Layout) (few : layout.count ≤ 64) where
 
   -- The line of each question about a node.
 
-  module _ (s : State) (question : Question) (answer : Answer) (text : List ℕ) where
+  module _ (s : State) (question : Question) (answer : Result Answer Refusal) (text : List ℕ) where
     pub asks_mode : (n a : ℕ) (r : Result NodeMode Refusal) → text ≡ answer_line (Mode n) answer → question ≡ Mode n → a ≡ min n 255 → r ≡ asked_of layout a (node_of s.nodes a).mode → answer ≡ mode_told r → Asks layout s question text
     asks_mode n a r line is e f g =
         let same = f ∙ ap (λ m. asked_of layout m (node_of s.nodes m).mode) e ∙ asked_clamped (λ m. (node_of s.nodes m).mode) n in
@@ -57,5 +57,5 @@ module _ (layout : Layout) (few : layout.count ≤ 64) where
         let same = g ∙ ap₂ (λ x y. entry_answer layout x y (entry_of s.nodes x y)) e f ∙ entry_clamped (entry_of s.nodes) n d in
         subst (λ q. Asks layout s q text) (sym is) (line ∙ ap (answer_line (question-variants.Entry n d)) (h ∙ ap entry_told same))
 
-    pub asks_calm : (calm : Bool) → text ≡ answer_line question answer → question ≡ Calm → Decides calm (promise.Calm layout s) → answer ≡ answer-variants.Calm calm → Asks layout s question text
+    pub asks_calm : (calm : Bool) → text ≡ answer_line question answer → question ≡ Calm → Decides calm (promise.Calm layout s) → answer ≡ Ok (answer-variants.Calm calm) → Asks layout s question text
     asks_calm calm line is told e = subst (λ q. Asks layout s q text) (sym is) (calm, told, line ∙ (λ i. answer_line (is i) (e i)))

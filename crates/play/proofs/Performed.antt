@@ -1,9 +1,10 @@
 -- What was made on the wall with numbers brought down to 255 is what the script's call asks for.
-use Rattle.std.proofs.Common.{◌≡◌, ℕ, ◌≤◌, min, sym, refl, subst, subst₂}
+use Rattle.std.proofs.Common.{◌≡◌, ℕ, ◌≤◌, min, Result, sym, refl, subst, subst₂}
 use Rattle.wiring.specs.Layout.{Layout}
 use Rattle.chooser.specs.declared.ports.PortSet.{PortSet}
 use Rattle.tray.specs.declared.types.Tray.{Tray}
 use Rattle.rules.specs.declared.Outcome.{Outcome}
+use Rattle.rules.specs.declared.Refusal.{Refusal}
 use Rattle.rules.specs.State.{State}
 use Rattle.rules.specs.Runs as runs
 use Rattle.rules.specs.Runs.{Does, cut, hand, post}
@@ -14,7 +15,7 @@ use Rattle.play.specs.Performs.{Performs, Plainly, told}
 use Rattle.play.proofs.Clamped.{cut_clamped, hand_clamped, post_clamped}
 
 module _ {C : Type 0} (picks : C → PortSet → ℕ → C → Type 0) (layout : Layout) (few : layout.count ≤ 64) where
-  module _ (call : Call) (reply : Reply) (answer : runs.Reply) (said : told reply ≡ answer) (s s' : State) (tray : Tray Outcome) (c c' : C) (stays : c' ≡ c) where
+  module _ (call : Call) (reply : Result Reply Refusal) (answer : runs.Reply) (said : told reply ≡ answer) (s s' : State) (tray : Tray Outcome) (c c' : C) (stays : c' ≡ c) where
     plainly : (made : runs.Call) → Does layout s made answer s' → Plainly picks layout made reply s tray c s' tray c'
     plainly made did = record { does = subst (λ r. Does layout s made r s') (sym said) did; tray_stays = refl; chooser_stays = stays }
 

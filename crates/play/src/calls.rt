@@ -1,9 +1,8 @@
 //! A call of a script, made on a wall.
 ghost use Rattle.std.specs.Prelude.{◌≡◌, ◌≤◌};
-ghost use Rattle.traffic.specs.Posting.{post_reply};
-ghost use Rattle.wall.specs.View.{state_of, done_reply};
+ghost use Rattle.wall.specs.View.{state_of};
 ghost use Rattle.play.specs.Makes.{Makes};
-ghost use Rattle.play.specs.Performs.{Performs, told};
+ghost use Rattle.play.specs.Performs.{Performs};
 ghost use Rattle.play.specs.Places.{places_of};
 
 use chooser::Chooser;
@@ -15,53 +14,36 @@ use tray::Tray;
 use wall::Wall;
 use wiring::Wiring;
 
-fn done(answer: Result<(), Refusal>) -> Reply
-    ensures { told result ≡ done_reply answer }
-{
-    match answer {
-        Ok(()) => Reply::Done,
-        Err(refusal) => Reply::Refused(refusal),
-    }
-}
-
-fn numbered(answer: Result<u32, Refusal>) -> Reply
-    ensures { told result ≡ post_reply answer }
-{
-    match answer {
-        Ok(number) => Reply::Numbered(number),
-        Err(refusal) => Reply::Refused(refusal),
-    }
-}
-
 /// Makes a call on a wall. A step puts its outcomes into the tray; the others leave it alone.
+// No Model of Wall: its view could not name a member of a bound.
 pub fn perform<W: Wiring, C: Chooser>(
     wall: &mut Wall<W, C>,
     call: Call,
     tray: &mut Tray<Outcome>,
-) -> Reply
+) -> Result<Reply, Refusal>
     ensures performs { Performs C.Chooser.picks (W.Wiring.layout wall.old.wiring) call result (state_of (W.Wiring.layout wall.old.wiring) wall.old.core) tray.old wall.old.chooser (state_of (W.Wiring.layout wall.new.wiring) wall.new.core) tray.new wall.new.chooser }
     ensures wiring { wall.new.wiring ≡ wall.old.wiring }
 {
     match call {
-        Call::Cut { node, port } => done(wall.cut(as_byte(node), as_byte(port))),
-        Call::Hand { node } => done(wall.hand(as_byte(node))),
-        Call::Slot => Reply::Slotted(wall.slot()),
+        Call::Cut { node, port } => wall.cut(as_byte(node), as_byte(port)).map(|()| Reply::Done),
+        Call::Hand { node } => wall.hand(as_byte(node)).map(|()| Reply::Done),
+        Call::Slot => Ok(Reply::Slotted(wall.slot())),
         Call::Post {
             source,
             destination,
             word,
-        } => numbered(wall.post(as_byte(source), as_byte(destination), word)),
-        Call::Step { .. } => match wall.step(tray) {
-            Ok(counts) => Reply::Stepped(counts),
-            Err(refusal) => Reply::Refused(refusal),
-        },
+        } => wall
+            .post(as_byte(source), as_byte(destination), word)
+            .map(Reply::Numbered),
+        Call::Step { .. } => wall.step(tray).map(Reply::Stepped),
     }
 }
 
 /// The most packets that a wall has in flight, so the most places that a step's tray needs.
 const MOST: usize = 256;
 
-/// What a place of a tray holds before it is used.
+/// What a place of a tray holds before it is used. A tray fills memory that is lent to it, so its
+/// places hold something from the start.
 const UNUSED: Outcome = Outcome {
     number: 0,
     ending: Ending::Delivered,
@@ -75,8 +57,7 @@ fn places(call: Call) -> usize
     ensures bound { result ≤ 256 }
 {
     match call {
-        Call::Step { free } if free < 256 => free as usize,
-        Call::Step { .. } => MOST,
+        Call::Step { free } => (free as usize).min(MOST),
         _ => 0,
     }
 }

@@ -1,8 +1,11 @@
 -- What is printed of every answer.
-use Rattle.std.specs.Prelude.{ℕ, Bool, true, false, cond, List, [], ◌∷◌, ◌++◌, length, drop, Some, None, codes, decimal, Option, ◌==◌, slice_index_or}
+use Rattle.std.specs.Prelude.{ℕ, Bool, true, false, cond, List, [], ◌∷◌, ◌++◌, length, drop, Some, None, codes, decimal, Option, Result, Ok, Err, ◌==◌, slice_index_or}
 use Rattle.std.specs.List.{flat_map}
+use Rattle.std.specs.Fmt.{◌++?◌}
 use Rattle.chooser.specs.PortSets.{has}
 use Rattle.chooser.specs.declared.ports.PortSet.{PortSet}
+use Rattle.fault.specs.Fault.{fault_number, fault_place}
+use Rattle.fault.specs.declared.WallFault.{WallFault}
 use Rattle.rules.specs.declared.Ending.{Ending}
 use Rattle.rules.specs.declared.Ending.TheVariants.{Delivered, Returned}
 use Rattle.rules.specs.declared.Mark.{Mark}
@@ -13,19 +16,22 @@ use Rattle.rules.specs.declared.Outcome.{Outcome}
 use Rattle.rules.specs.declared.Packet.{Packet}
 use Rattle.rules.specs.declared.Refusal.{Refusal}
 use Rattle.rules.specs.declared.SlotAnswer.{SlotAnswer}
-use Rattle.rules.specs.declared.Standing.{Standing}
-use Rattle.rules.specs.declared.Standing.TheVariants.{Home, At}
 use Rattle.rules.specs.declared.StepCounts.{StepCounts}
 use Rattle.rules.specs.Numbers.{act_number, mark_letter, refusal_number}
 use Rattle.script.specs.Shown.{call_text, question_text}
 use Rattle.script.specs.declared.line.Call.{Call}
 use Rattle.script.specs.declared.line.Question.{Question}
 use Rattle.reply.specs.declared.types.Reply.{Reply}
-use Rattle.reply.specs.declared.types.Reply.TheVariants.{Done, Refused, Slotted, Numbered, Stepped}
+use Rattle.reply.specs.declared.types.Reply.TheVariants.{Done, Slotted, Numbered, Stepped}
 use Rattle.reply.specs.declared.types.Answer.{Answer}
 use Rattle.reply.specs.declared.types.Answer.TheVariants as answer
-use Rattle.reply.specs.declared.types.Wired.{Wired}
-use Rattle.reply.specs.declared.types.Wired.TheVariants.{Nodes, TurnedDown, TurnedDownAt}
+
+-- Lines
+
+-- What was asked for, and what came of it or why it was refused. It says nothing where the text of one is not known.
+abbrev pub told_line : {T F : Type 0} → (T → Option (List ℕ)) → (F → Option (List ℕ)) → Option (List ℕ) → Result T F → Option (List ℕ)
+told_line text why asked (Ok x) = asked ++? (Some (codes ": ") ++? (text x ++? Some (codes "\n")))
+told_line text why asked (Err e) = asked ++? (Some (codes ": refused ") ++? (why e ++? Some (codes "\n")))
 
 -- Calls
 
@@ -40,16 +46,20 @@ counts_text c =
 abbrev pub refusal_text : Refusal → List ℕ
 refusal_text r = codes "refused " ++ decimal (refusal_number r)
 
+-- What was asked for, or its refusal.
+abbrev pub or_refused : {T : Type 0} → (T → List ℕ) → Result T Refusal → List ℕ
+or_refused text (Ok x) = text x
+or_refused text (Err r) = refusal_text r
+
 abbrev pub reply_text : Reply → List ℕ
 reply_text Done = codes "ok"
-reply_text (Refused r) = refusal_text r
 reply_text (Slotted a) = slot_text a
 reply_text (Numbered n) = codes "packet " ++ decimal n
 reply_text (Stepped c) = counts_text c
 
 -- A call and its reply.
-abbrev pub call_line : Call → Reply → List ℕ
-call_line call reply = call_text call ++ (codes ": " ++ (reply_text reply ++ codes "\n"))
+abbrev pub call_line : Call → Result Reply Refusal → List ℕ
+call_line call reply = call_text call ++ (codes ": " ++ (or_refused reply_text reply ++ codes "\n"))
 
 abbrev pub ending_word : Ending → List ℕ
 ending_word Delivered = codes "delivered"
@@ -61,7 +71,7 @@ outcome_line o =
     codes "  packet " ++ (decimal o.number ++ (codes " " ++ (ending_word o.ending ++ (codes " at " ++ (decimal o.node ++ (codes " word " ++ (decimal o.word ++ codes "\n")))))))
 
 -- A step with what it put into the tray.
-abbrev pub step_lines : Call → Reply → List Outcome → List ℕ
+abbrev pub step_lines : Call → Result Reply Refusal → List Outcome → List ℕ
 step_lines call reply outcomes = call_line call reply ++ flat_map outcome_line outcomes
 
 -- Questions
@@ -97,14 +107,13 @@ calm_text true = codes "yes"
 calm_text false = codes "no"
 
 abbrev pub answer_text : Answer → List ℕ
-answer_text (answer.Refused r) = refusal_text r
 answer_text (answer.Mode m) = mode_text m
 answer_text (answer.Entry e) = entry_text e
 answer_text (answer.Marks ms) = marks_text ms
 answer_text (answer.Calm b) = calm_text b
 
-abbrev pub answer_line : Question → Answer → List ℕ
-answer_line question answer = question_text question ++ (codes ": " ++ (answer_text answer ++ codes "\n"))
+abbrev pub answer_line : Question → Result Answer Refusal → List ℕ
+answer_line question answer = question_text question ++ (codes ": " ++ (or_refused answer_text answer ++ codes "\n"))
 
 -- The nodes whose hands are up.
 abbrev pub hand_item : ℕ → List ℕ
@@ -114,16 +123,16 @@ abbrev pub hands_line : List ℕ → List ℕ
 hands_line nodes = cond (length nodes == 0) (codes "hands: none\n") (codes "hands:" ++ (flat_map hand_item nodes ++ codes "\n"))
 
 -- Where a packet stands.
-abbrev pub standing_text : Standing → List ℕ
-standing_text Home = codes "home"
-standing_text (At p) = codes "port " ++ decimal p
+abbrev pub standing_text : Option ℕ → List ℕ
+standing_text None = codes "home"
+standing_text (Some p) = codes "port " ++ decimal p
 
 abbrev pub packet_text : Packet → List ℕ
 packet_text x = decimal x.number ++ (codes " at " ++ (decimal x.node ++ (codes " " ++ standing_text x.standing)))
 
 -- What a reading past the last packet gives.
 abbrev pub no_packet : Packet
-no_packet = record { number = 0; source = 0; destination = 0; word = 0; node = 0; standing = Home }
+no_packet = record { number = 0; source = 0; destination = 0; word = 0; node = 0; standing = None }
 
 -- The packets in flight.
 abbrev pub later_packet : Packet → List ℕ
@@ -136,14 +145,27 @@ flight_line packets =
 
 -- Wirings
 
-abbrev pub wired_text : Wired → List ℕ
-wired_text (Nodes n) = decimal n ++ codes " nodes"
-wired_text (TurnedDown number) = codes "refused " ++ decimal number
-wired_text (TurnedDownAt number place) = codes "refused " ++ (decimal number ++ (codes " at " ++ decimal place))
+-- A number of nodes, and a fault with its place, within a line.
+abbrev pub count_text : ℕ → List ℕ
+count_text n = decimal n ++ codes " nodes"
 
-abbrev pub mesh_line : ℕ → ℕ → Wired → List ℕ
-mesh_line columns rows wired =
-    codes "mesh " ++ (decimal columns ++ (codes " " ++ (decimal rows ++ (codes ": " ++ (wired_text wired ++ codes "\n")))))
+abbrev pub fault_text : WallFault → List ℕ
+fault_text fault = decimal (fault_number fault) ++ (codes " at " ++ decimal (fault_place fault))
 
-abbrev pub cables_line : Wired → List ℕ
-cables_line wired = codes "cables: " ++ (wired_text wired ++ codes "\n")
+abbrev pub nodes_text : ℕ → List ℕ
+nodes_text n = decimal n ++ codes " nodes\n"
+
+abbrev pub mesh_text : Result ℕ WallFault → List ℕ
+mesh_text (Ok n) = nodes_text n
+mesh_text (Err fault) = codes "refused " ++ (decimal (fault_number fault) ++ codes "\n")
+
+abbrev pub mesh_line : ℕ → ℕ → Result ℕ WallFault → List ℕ
+mesh_line columns rows nodes = codes "mesh " ++ (decimal columns ++ (codes " " ++ (decimal rows ++ (codes ": " ++ mesh_text nodes))))
+
+-- A wall file's refusal has the byte at fault too.
+abbrev pub cables_text : Result ℕ WallFault → List ℕ
+cables_text (Ok n) = nodes_text n
+cables_text (Err fault) = codes "refused " ++ (decimal (fault_number fault) ++ (codes " at " ++ (decimal (fault_place fault) ++ codes "\n")))
+
+abbrev pub cables_line : Result ℕ WallFault → List ℕ
+cables_line nodes = codes "cables: " ++ cables_text nodes

@@ -1,64 +1,59 @@
 //! Whole lines, each ended by a line feed.
-ghost use Rattle.std.specs.Prelude.{◌≡◌, IfOk, Some, string_bytes};
-ghost use Rattle.std.specs.List.{flat_map};
-ghost use Rattle.reply.specs.Text.{call_line, outcome_line, step_lines, answer_line, hand_item, hands_line, standing_text, packet_text, later_packet, flight_line, wired_text, mesh_line, cables_line};
+ghost use Rattle.std.specs.Prelude.{◌≡◌, IfOk, IfSome, Some, string_bytes};
+ghost use Rattle.reply.specs.Text.{told_line, count_text, fault_text, step_lines, answer_line, hands_line, standing_text, packet_text, flight_line, mesh_line, cables_line};
 
 use crate::text::EndingWord;
-use crate::types::{Answer, Reply, Wired};
-use rules::{Outcome, Packet, Standing};
+use crate::types::{Answer, Reply};
+use fault::WallFault;
+use rules::{Outcome, Packet, Refusal};
 use script::{Call, Question};
 use std::alloc::{AllocError, Global};
 use std::fmt;
+use std::fmt::Write;
 
-fn call_line(heap: Global, call: Call, reply: Reply) -> Result<String, AllocError>
-    ensures { IfOk result (λ s. string_bytes s ≡ call_line call reply) }
+// A line of what was asked for, and of what came of it or why it was refused.
+fn line<A: fmt::Display + Drop, T: fmt::Display + Drop, F: fmt::Display + Drop>(
+    heap: Global,
+    asked: A,
+    told: Result<T, F>,
+) -> Result<String, AllocError>
+    ensures { IfOk result (λ s. IfSome (told_line T.output F.output (A.output asked) told) (λ bs. string_bytes s ≡ bs)) }
 {
-    format!(in heap; "{call}: {reply}\n")
+    match told {
+        Ok(told) => format!(in heap; "{asked}: {told}\n"),
+        Err(why) => format!(in heap; "{asked}: refused {why}\n"),
+    }
 }
 
-fn outcome_line(heap: Global, outcome: Outcome) -> Result<String, AllocError>
-    ensures { IfOk result (λ s. string_bytes s ≡ outcome_line outcome) }
-{
-    let number = outcome.number;
-    let ending = EndingWord(outcome.ending);
-    let node = outcome.node;
-    let word = outcome.word;
-    format!(in heap; "  packet {number} {ending} at {node} word {word}\n")
-}
-
-/// A call with its reply, and under it a line for each outcome.
+/// A call with its reply or its refusal, and under it a line for each outcome.
 pub fn call_lines(
     heap: Global,
     call: Call,
-    reply: Reply,
+    reply: Result<Reply, Refusal>,
     outcomes: &[Outcome],
 ) -> Result<String, AllocError>
     ensures { IfOk result (λ s. string_bytes s ≡ step_lines call reply outcomes.now) }
 {
-    let mut text = call_line(heap, call, reply)?;
+    let mut text = line(heap, call, reply.map_err(Refusal::number))?;
     for outcome in outcomes {
-        let line = outcome_line(heap, *outcome)?;
-        text.push_str(line.as_str())?;
+        let number = outcome.number;
+        let ending = EndingWord(outcome.ending);
+        let node = outcome.node;
+        let word = outcome.word;
+        write!(text, "  packet {number} {ending} at {node} word {word}\n")?;
     }
     Ok(text)
 }
 
-/// A question with its answer.
-pub fn answer_line(heap: Global, question: Question, answer: Answer) -> Result<String, AllocError>
+/// A question with its answer or its refusal.
+pub fn answer_line(
+    heap: Global,
+    question: Question,
+    answer: Result<Answer, Refusal>,
+) -> Result<String, AllocError>
     ensures { IfOk result (λ s. string_bytes s ≡ answer_line question answer) }
 {
-    format!(in heap; "{question}: {answer}\n")
-}
-
-fn hand_items(heap: Global, nodes: &[u8]) -> Result<String, AllocError>
-    ensures { IfOk result (λ s. string_bytes s ≡ flat_map hand_item nodes.now) }
-{
-    let mut text = String::new(heap);
-    for node in nodes {
-        let item = format!(in heap; " {node}")?;
-        text.push_str(item.as_str())?;
-    }
-    Ok(text)
+    line(heap, question, answer.map_err(Refusal::number))
 }
 
 /// The nodes whose hands are up.
@@ -68,24 +63,30 @@ pub fn hands_line(heap: Global, nodes: &[u8]) -> Result<String, AllocError>
     if nodes.is_empty() {
         return String::from_str(heap, "hands: none\n");
     }
-    let items = hand_items(heap, nodes)?;
-    format!(in heap; "hands:{items}\n")
+    let mut text = String::from_str(heap, "hands:")?;
+    for node in nodes {
+        write!(text, " {node}")?;
+    }
+    text.push_str("\n")?;
+    Ok(text)
 }
 
+// An option is of another crate, so its text needs a type of this one.
 #[derive(Clone, Copy)]
-struct StandingText(Standing);
+struct StandingText(Option<u8>);
 
 impl fmt::Display for StandingText {
     ghost output = { λ x. Some (standing_text x.0) };
 
     fn fmt<W: fmt::Write>(&self, f: &mut fmt::Formatter<W>) -> fmt::Result {
         match self.0 {
-            Standing::Home => write!(f, "home"),
-            Standing::At(port) => write!(f, "port {port}"),
+            None => write!(f, "home"),
+            Some(port) => write!(f, "port {port}"),
         }
     }
 }
 
+// A packet is of another crate, so its text needs a type of this one.
 #[derive(Clone, Copy)]
 struct PacketText(Packet);
 
@@ -100,18 +101,6 @@ impl fmt::Display for PacketText {
     }
 }
 
-fn later_packets(heap: Global, packets: &[Packet]) -> Result<String, AllocError>
-    ensures { IfOk result (λ s. string_bytes s ≡ flat_map later_packet packets.now) }
-{
-    let mut text = String::new(heap);
-    for packet in packets {
-        let packet = PacketText(*packet);
-        let item = format!(in heap; ", {packet}")?;
-        text.push_str(item.as_str())?;
-    }
-    Ok(text)
-}
-
 /// The packets in flight.
 pub fn flight_line(heap: Global, packets: &[Packet]) -> Result<String, AllocError>
     ensures { IfOk result (λ s. string_bytes s ≡ flight_line packets.now) }
@@ -120,33 +109,56 @@ pub fn flight_line(heap: Global, packets: &[Packet]) -> Result<String, AllocErro
         return String::from_str(heap, "flight: none\n");
     }
     let first = PacketText(packets[0]);
+    let mut text = format!(in heap; "flight: {first}")?;
     let (_, rest) = packets.split_at(1);
-    let others = later_packets(heap, rest)?;
-    format!(in heap; "flight: {first}{others}\n")
+    for packet in rest {
+        let packet = PacketText(*packet);
+        write!(text, ", {packet}")?;
+    }
+    text.push_str("\n")?;
+    Ok(text)
 }
 
-impl fmt::Display for Wired {
-    ghost output = { λ x. Some (wired_text x) };
+// How many nodes there are.
+#[derive(Clone, Copy)]
+struct NodeCount(u8);
+
+impl fmt::Display for NodeCount {
+    ghost output = { λ x. Some (count_text x.0) };
 
     fn fmt<W: fmt::Write>(&self, f: &mut fmt::Formatter<W>) -> fmt::Result {
-        match *self {
-            Wired::Nodes(nodes) => write!(f, "{nodes} nodes"),
-            Wired::TurnedDown(number) => write!(f, "refused {number}"),
-            Wired::TurnedDownAt { number, place } => write!(f, "refused {number} at {place}"),
-        }
+        write!(f, "{} nodes", self.0)
     }
 }
 
-/// What became of a mesh of so many columns and rows.
-pub fn mesh_line(heap: Global, columns: u32, rows: u32, wired: Wired) -> Result<String, AllocError>
-    ensures { IfOk result (λ s. string_bytes s ≡ mesh_line columns rows wired) }
+/// What became of a mesh of so many columns and rows: how many nodes it has, or its fault.
+pub fn mesh_line(
+    heap: Global,
+    columns: u32,
+    rows: u32,
+    nodes: Result<u8, WallFault>,
+) -> Result<String, AllocError>
+    ensures { IfOk result (λ s. string_bytes s ≡ mesh_line columns rows nodes) }
 {
-    format!(in heap; "mesh {columns} {rows}: {wired}\n")
+    let mesh = format_args!("mesh {columns} {rows}");
+    line(heap, mesh, nodes.map(NodeCount).map_err(WallFault::number))
 }
 
-/// What became of a wall file.
-pub fn cables_line(heap: Global, wired: Wired) -> Result<String, AllocError>
-    ensures { IfOk result (λ s. string_bytes s ≡ cables_line wired) }
+// The number of a fault, and where the fault is. A fault is of another crate, so this text needs a type of this one.
+#[derive(Clone, Copy)]
+struct FaultPlace(WallFault);
+
+impl fmt::Display for FaultPlace {
+    ghost output = { λ x. Some (fault_text x.0) };
+
+    fn fmt<W: fmt::Write>(&self, f: &mut fmt::Formatter<W>) -> fmt::Result {
+        write!(f, "{} at {}", self.0.number(), self.0.place())
+    }
+}
+
+/// What became of a wall file: how many nodes it has, or its fault and where that is.
+pub fn cables_line(heap: Global, nodes: Result<u8, WallFault>) -> Result<String, AllocError>
+    ensures { IfOk result (λ s. string_bytes s ≡ cables_line nodes) }
 {
-    format!(in heap; "cables: {wired}\n")
+    line(heap, "cables", nodes.map(NodeCount).map_err(FaultPlace))
 }

@@ -1,14 +1,12 @@
-//! The answers of a wall to calls and to questions.
+//! The answers of a wall to calls and to questions. A refused one is an `Err` beside them.
 use chooser::PortSet;
-use rules::{Mark, Mode, Refusal, SlotAnswer, StepCounts};
+use rules::{Mark, Mode, SlotAnswer, StepCounts};
 
 /// What a wall answers to a call.
 #[derive(Clone, Copy)]
 pub enum Reply {
     /// The call has no answer of its own, and was accepted.
     Done,
-    /// The call was refused.
-    Refused(Refusal),
     /// What happened in a slot.
     Slotted(SlotAnswer),
     /// The number of a packet that was posted.
@@ -20,8 +18,6 @@ pub enum Reply {
 /// What a wall answers to a question about one node, or about itself.
 #[derive(Clone, Copy)]
 pub enum Answer {
-    /// There is no such node.
-    Refused(Refusal),
     /// What a node is doing.
     Mode(Mode),
     /// A node's entry: its ports and its count.
@@ -30,15 +26,4 @@ pub enum Answer {
     Marks([Mark; 4]),
     /// Whether the wall is calm.
     Calm(bool),
-}
-
-/// What became of a wiring.
-#[derive(Clone, Copy)]
-pub enum Wired {
-    /// It has so many nodes.
-    Nodes(u8),
-    /// It was refused, by this number.
-    TurnedDown(u8),
-    /// Its wall file was refused, by this number and at this byte.
-    TurnedDownAt { number: u8, place: u16 },
 }

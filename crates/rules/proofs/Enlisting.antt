@@ -8,7 +8,6 @@ use Rattle.rules.specs.declared.Act.TheVariants.{Root}
 use Rattle.rules.specs.declared.Mark.TheVariants.{Unmarked, Up, Down}
 use Rattle.rules.specs.declared.Mode.TheVariants.{New, Recovering, Serving}
 use Rattle.rules.specs.declared.Packet.{Packet}
-use Rattle.rules.specs.declared.Standing.TheVariants.{At}
 use Rattle.rules.specs.Ports.{Ports, has}
 use Rattle.rules.specs.State.{State, nothing, entry, node_of}
 use Rattle.rules.specs.Flood.{is_up, is_down, is_marked}
@@ -550,7 +549,7 @@ module _ (layout : Layout) (sound : Sound layout) (s : State) (inv : Invariant l
       go (inl (d, here)) = in_known x.node d here e
       go (inr none) = inv.flying.node_known x (packet_was x there) (sym (out_mode x.node none) ∙ e)
 
-  way_on_in : (x : Packet) (a root : ℕ) → Has (enlisting layout s).packets x → x.standing ≡ At a → mode_at (enlisting layout s) x.node ≡ Serving root →
+  way_on_in : (x : Packet) (a root : ℕ) → Has (enlisting layout s).packets x → x.standing ≡ Some a → mode_at (enlisting layout s) x.node ≡ Serving root →
       hand_at (enlisting layout s) x.node ≡ false → (x.node ≡ x.destination → ⊥) →
       (ports : Ports) × (count : ℕ) × (p : ℕ) × (entry_at (enlisting layout s) x.node x.destination ≡ entry ports count)
       × (has ports p ≡ true) × (turn (mark_at (enlisting layout s) x.node a) (mark_at (enlisting layout s) x.node p) ≡ true)

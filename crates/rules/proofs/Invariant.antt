@@ -7,7 +7,6 @@ use Rattle.rules.specs.declared.Mark.TheVariants.{Up, Down}
 use Rattle.rules.specs.declared.Mode.{Mode}
 use Rattle.rules.specs.declared.Mode.TheVariants.{New, Recovering, Serving}
 use Rattle.rules.specs.declared.Packet.{Packet}
-use Rattle.rules.specs.declared.Standing.TheVariants.{At}
 use Rattle.rules.specs.Ports.{Ports, has}
 use Rattle.rules.specs.State.{State, Entry, nothing, entry, node_of, mark_of, live_of, entry_of}
 use Rattle.rules.specs.Flood.{is_up, is_down, is_marked}
@@ -147,9 +146,9 @@ pub record Flying (layout : Layout) (s : State) : Type 0 where
   pub node_below : (x : Packet) → Has s.packets x → x.node < layout.count
   pub destination_below : (x : Packet) → Has s.packets x → x.destination < layout.count
   pub node_known : (x : Packet) → Has s.packets x → mode_at s x.node ≡ New → ⊥
-  pub port_cable : (x : Packet) (p : ℕ) → Has s.packets x → x.standing ≡ At p → (m : ℕ) × (q : ℕ) × Cable layout x.node p m q
+  pub port_cable : (x : Packet) (p : ℕ) → Has s.packets x → x.standing ≡ Some p → (m : ℕ) × (q : ℕ) × Cable layout x.node p m q
   -- a packet at a port of a serving node with its hand down can go on
-  pub way_on : (x : Packet) (a root : ℕ) → Has s.packets x → x.standing ≡ At a → mode_at s x.node ≡ Serving root →
+  pub way_on : (x : Packet) (a root : ℕ) → Has s.packets x → x.standing ≡ Some a → mode_at s x.node ≡ Serving root →
       hand_at s x.node ≡ false → (x.node ≡ x.destination → ⊥) →
       (ports : Ports) × (count : ℕ) × (p : ℕ) × (entry_at s x.node x.destination ≡ entry ports count)
       × (has ports p ≡ true) × (turn (mark_at s x.node a) (mark_at s x.node p) ≡ true)

@@ -1,11 +1,9 @@
 -- Where packets stand: which port has one, and lists in which no two share a port.
-use Rattle.std.proofs.Common.{◌≡◌, ℕ, Bool, true, false, eqb, ◌⊎◌, List, [], ◌∷◌, ◌++◌, sym, refl, ap, ◌∙◌, inl, inr}
+use Rattle.std.proofs.Common.{◌≡◌, ℕ, Bool, true, false, eqb, ◌⊎◌, List, [], ◌∷◌, ◌++◌, sym, refl, ap, ◌∙◌, inl, inr, Some, None, Option}
 use Rattle.std.specs.List.{ContainsAt as Has}
 use Rattle.std.proofs.lemmas.Bool.{both_ways, and_parts, or_cases, or_parts, eqb-true}
 use Rattle.std.proofs.ByRecursion.{has_append_left, has_append_right}
 use Rattle.rules.specs.declared.Packet.{Packet}
-use Rattle.rules.specs.declared.Standing.{Standing}
-use Rattle.rules.specs.declared.Standing.TheVariants.{Home, At}
 use Rattle.rules.specs.Flood.{is_marked}
 use Rattle.rules.specs.State.{Node, mark_of}
 use Rattle.rules.specs.Step.{permitted, stands_at, taken, moved_to}
@@ -14,25 +12,25 @@ use Rattle.rules.proofs.Members.{has_none, has_first, has_later, has_cases, has_
 use Rattle.rules.proofs.Rank.{turn_to_marked}
 
 -- A port that a packet may take is marked.
-pub permitted_marked : (nodes : List Node) (n : ℕ) (from : Standing) (p : ℕ) → permitted nodes n from p ≡ true →
+pub permitted_marked : (nodes : List Node) (n : ℕ) (from : Option ℕ) (p : ℕ) → permitted nodes n from p ≡ true →
     is_marked (mark_of nodes n p) ≡ true
 unfolding permitted
-permitted_marked nodes n Home p may = may
-permitted_marked nodes n (At a) p may = turn_to_marked (mark_of nodes n a) (mark_of nodes n p) may
+permitted_marked nodes n None p may = may
+permitted_marked nodes n (Some a) p may = turn_to_marked (mark_of nodes n a) (mark_of nodes n p) may
 
 -- One packet
 
 pub stands_node : (n p : ℕ) (x : Packet) → stands_at n p x ≡ true → x.node ≡ n
 unfolding stands_at
-stands_node n p x h = eqb-true x.node n (and_parts (eqb x.node n) (elim x.standing [ Home ↦ false | At q ↦ eqb q p ]) h).0
+stands_node n p x h = eqb-true x.node n (and_parts (eqb x.node n) (elim x.standing [ None ↦ false | Some q ↦ eqb q p ]) h).0
 
-pub stands_port : (n p : ℕ) (x : Packet) → stands_at n p x ≡ true → x.standing ≡ At p
+pub stands_port : (n p : ℕ) (x : Packet) → stands_at n p x ≡ true → x.standing ≡ Some p
 unfolding stands_at
-stands_port n p x h = go x.standing refl (and_parts (eqb x.node n) (elim x.standing [ Home ↦ false | At q ↦ eqb q p ]) h).1
+stands_port n p x h = go x.standing refl (and_parts (eqb x.node n) (elim x.standing [ None ↦ false | Some q ↦ eqb q p ]) h).1
   where
-    go : (where' : Standing) → x.standing ≡ where' → (elim where' as (λ z. Bool) [ Home ↦ false | At q ↦ eqb q p ]) ≡ true → x.standing ≡ At p
-    go Home is e = absurd (both_ways false refl e)
-    go (At q) is e = is ∙ ap At (eqb-true q p e)
+    go : (where' : Option ℕ) → x.standing ≡ where' → (elim where' as (λ z. Bool) [ None ↦ false | Some q ↦ eqb q p ]) ≡ true → x.standing ≡ Some p
+    go None is e = absurd (both_ways false refl e)
+    go (Some q) is e = is ∙ ap Some (eqb-true q p e)
 
 pub stands_moved : (n p m q : ℕ) (x : Packet) → stands_at n p (moved_to m q x) ≡ true → (n ≡ m) × (p ≡ q)
 unfolding stands_at

@@ -1,6 +1,6 @@
 -- In a calm wall a step with packets in flight moves, delivers or returns one: if all waited, the
 -- packet of the lowest rank would wait for one of a lower rank still.
-use Rattle.std.proofs.Common.{◌≡◌, ℕ, zero, suc, ◌+◌, ◌<◌, ◌≤◌, true, false, ◌⊎◌, List, [], ◌∷◌, ◌++◌, length, sym, refl, ◌∙◌, subst, inl, inr, arith}
+use Rattle.std.proofs.Common.{◌≡◌, ℕ, zero, suc, ◌+◌, ◌<◌, ◌≤◌, true, false, ◌⊎◌, List, [], ◌∷◌, ◌++◌, length, sym, refl, ◌∙◌, subst, inl, inr, arith, Some, None, Option}
 use Rattle.std.specs.List.{ContainsAt as Has}
 use Rattle.std.proofs.lemmas.Bool.{cases_lt}
 use Rattle.wiring.specs.Layout.{Layout, Sound}
@@ -8,8 +8,6 @@ use Rattle.rules.specs.declared.Mode.{Mode}
 use Rattle.rules.specs.declared.Mode.TheVariants.{New, Recovering, Serving}
 use Rattle.rules.specs.declared.Outcome.{Outcome}
 use Rattle.rules.specs.declared.Packet.{Packet}
-use Rattle.rules.specs.declared.Standing.{Standing}
-use Rattle.rules.specs.declared.Standing.TheVariants.{Home, At}
 use Rattle.rules.specs.declared.StepCounts.{StepCounts}
 use Rattle.rules.specs.Ports.{Ports, has}
 use Rattle.rules.specs.State.{Node, State, entry, mark_of}
@@ -39,11 +37,11 @@ waited layout nodes (moving why later) none_crossed none_out x h = absurd (omega
 waited layout nodes (arriving why later) none_crossed none_out x h = absurd (omega arith)
 waited layout nodes (stranding why later) none_crossed none_out x h = absurd (omega arith)
 
-permitted_home : (nodes : List Node) (n : ℕ) (from : Standing) (p : ℕ) → from ≡ Home → is_marked (mark_of nodes n p) ≡ true → permitted nodes n from p ≡ true
+permitted_home : (nodes : List Node) (n : ℕ) (from : Option ℕ) (p : ℕ) → from ≡ None → is_marked (mark_of nodes n p) ≡ true → permitted nodes n from p ≡ true
 unfolding permitted
 permitted_home nodes n from p home marked = rw (home, permitted) marked
 
-permitted_at : (nodes : List Node) (n : ℕ) (from : Standing) (a p : ℕ) → from ≡ At a → turn (mark_of nodes n a) (mark_of nodes n p) ≡ true → permitted nodes n from p ≡ true
+permitted_at : (nodes : List Node) (n : ℕ) (from : Option ℕ) (a p : ℕ) → from ≡ Some a → turn (mark_of nodes n a) (mark_of nodes n p) ≡ true → permitted nodes n from p ≡ true
 unfolding permitted
 permitted_at nodes n from a p at may = rw (at, permitted) may
 
@@ -87,7 +85,7 @@ module _ (layout : Layout) (sound : Sound layout) (s : State) (invariant : Invar
       let by = taken_by far.0 far.1 others full in
       (by.0, far.0, far.1, old by.0 by.1, live, far.2, by.2)
 
-  none_at_port : (k : ℕ) (x : Packet) (a : ℕ) → Has s.packets x → x.standing ≡ At a → rank layout s invariant.ordered x.node a < k → ⊥
+  none_at_port : (k : ℕ) (x : Packet) (a : ℕ) → Has s.packets x → x.standing ≡ Some a → rank layout s invariant.ordered x.node a < k → ⊥
   none_at_port zero x a h at low = omega arith
   none_at_port (suc k) x a h at low =
       let b = (blocked x h).1 in
@@ -98,21 +96,21 @@ module _ (layout : Layout) (sound : Sound layout) (s : State) (invariant : Invar
       let lower : rank layout s invariant.ordered y.node q < k = rw (stands_node m q y stands) (omega arith) in
       none_at_port k y q old (stands_port m q y stands) lower
 
-  none_standing : (x : Packet) (a : ℕ) → Has s.packets x → x.standing ≡ At a → ⊥
+  none_standing : (x : Packet) (a : ℕ) → Has s.packets x → x.standing ≡ Some a → ⊥
   none_standing x a h at = none_at_port (suc (rank layout s invariant.ordered x.node a)) x a h at (omega arith)
 
   none_in_flight : (x : Packet) → Has s.packets x → ⊥
   none_in_flight x h = go x.standing refl
     where
-      go : (from : Standing) → x.standing ≡ from → ⊥
-      go Home home =
+      go : (from : Option ℕ) → x.standing ≡ from → ⊥
+      go None home =
           let b = (blocked x h).1 in
           let (p, inside) = invariant.routed.entry_port x.node x.destination b.ports b.count b.entered in
           let marked = (invariant.routed.entry_live x.node x.destination b.ports b.count p b.entered inside (hand_down x h)).1 in
           let (y, m, q, old, live, cable, stands) =
           blocker x h b.ports b.count p b.entered inside (permitted_home s.nodes x.node x.standing p home marked) in
           none_standing y q old (stands_port m q y stands)
-      go (At a) at = none_standing x a h at
+      go (Some a) at = none_standing x a h at
 
 pub progress_step : (layout : Layout) → Sound layout → (s after : State) (counts : StepCounts) (outcomes : List Outcome) (crossed : List ℕ) (asked : List (Ports × ℕ)) →
     Invariant layout s → Calm layout s → 1 ≤ length s.packets → Steps layout s counts outcomes crossed asked after →

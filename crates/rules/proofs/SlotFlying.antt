@@ -1,13 +1,12 @@
 -- Packets in flight over a slot: those at a node that ends its recovery go home, and the others
 -- stay where they stand.
-use Rattle.std.proofs.Common.{◌≡◌, ℕ, zero, suc, ◌<◌, ◌≤◌, true, false, ◌⊎◌, List, [], ◌∷◌, map, length, sym, refl, ap, ◌∙◌, subst, inl, inr, arith}
+use Rattle.std.proofs.Common.{◌≡◌, ℕ, zero, suc, ◌<◌, ◌≤◌, true, false, ◌⊎◌, List, [], ◌∷◌, map, length, sym, refl, ap, ◌∙◌, subst, inl, inr, arith, Some, None}
 use lib.ListN.{length-map}
 use Rattle.std.specs.List.{ContainsAt as Has}
 use Rattle.std.proofs.lemmas.Bool.{cond_both, cond-true, cond-false, cases_Bool, and_parts, both_ways}
 use Rattle.wiring.specs.Layout.{Layout}
 use Rattle.rules.specs.declared.Mode.TheVariants.{New, Serving}
 use Rattle.rules.specs.declared.Packet.{Packet}
-use Rattle.rules.specs.declared.Standing.TheVariants.{Home, At}
 use Rattle.rules.specs.Ports.{Ports, has}
 use Rattle.rules.specs.State.{Node, State, entry, node_of}
 use Rattle.rules.specs.Flood.{Cell}
@@ -69,14 +68,14 @@ module _ (nodes : List Node) (x : Packet) where
       (λ e h. absurd (both_ways false refl (and_parts _ false h).1)) (λ e h. h)
 
   -- A packet that still stands at a port stayed as it was.
-  pub sent_stayed : (a : ℕ) → (sent_home nodes x).standing ≡ At a → (sent_home nodes x ≡ x) × (ends_recovery (node_of nodes x.node).mode ≡ false)
+  pub sent_stayed : (a : ℕ) → (sent_home nodes x).standing ≡ Some a → (sent_home nodes x ≡ x) × (ends_recovery (node_of nodes x.node).mode ≡ false)
   unfolding sent_home
   sent_stayed a h = go (cases_Bool (ends_recovery (node_of nodes x.node).mode))
     where
       go : (ends_recovery (node_of nodes x.node).mode ≡ true) ⊎ (ends_recovery (node_of nodes x.node).mode ≡ false) →
           (sent_home nodes x ≡ x) × (ends_recovery (node_of nodes x.node).mode ≡ false)
       go (inl ends) =
-          let home : Home ≡ At a = sym (ap (λ y. y.standing) (cond-true (ends_recovery (node_of nodes x.node).mode) (at_home x) x ends)) ∙ h in
+          let home : None ≡ Some a = sym (ap (λ y. y.standing) (cond-true (ends_recovery (node_of nodes x.node).mode) (at_home x) x ends)) ∙ h in
           absurd (let z : ◌≡◌ {A = ℕ} 0 1 = cc in omega arith)
       go (inr stays) = (cond-false (ends_recovery (node_of nodes x.node).mode) (at_home x) x stays, stays)
 
@@ -87,7 +86,7 @@ module _ (layout : Layout) (s after : State) (cell : ℕ → Cell) (ticked : Tic
   was y there = has_map (sent_home s.nodes) s.packets y (subst (λ ps. Has ps y) ticked.packets_are there)
 
   -- A packet at a port was there before, and its node goes on as it did.
-  stayed : (y : Packet) (a : ℕ) → Has after.packets y → y.standing ≡ At a → Has s.packets y × (ends_recovery (mode_at s y.node) ≡ false)
+  stayed : (y : Packet) (a : ℕ) → Has after.packets y → y.standing ≡ Some a → Has s.packets y × (ends_recovery (mode_at s y.node) ≡ false)
   stayed y a there stands =
       let (x, in-s, sent) = was y there in
       let (same, goes_on) = sent_stayed s.nodes x a (ap (λ z. z.standing) sent ∙ stands) in
@@ -120,7 +119,7 @@ module _ (layout : Layout) (s after : State) (cell : ℕ → Cell) (ticked : Tic
       let (x, in-s, same, to) = node_was y there in
       flying.node_known x in-s (ap (mode_at s) same ∙ tick_new (mode_at s y.node) (sym (ticked.mode_is y.node) ∙ e))
 
-  goes_on : (y : Packet) (a root : ℕ) → Has after.packets y → y.standing ≡ At a → mode_at after y.node ≡ Serving root →
+  goes_on : (y : Packet) (a root : ℕ) → Has after.packets y → y.standing ≡ Some a → mode_at after y.node ≡ Serving root →
       hand_at after y.node ≡ false → (y.node ≡ y.destination → ⊥) →
       (ports : Ports) × (count : ℕ) × (p : ℕ) × (entry_at after y.node y.destination ≡ entry ports count)
       × (has ports p ≡ true) × (turn (mark_at after y.node a) (mark_at after y.node p) ≡ true)

@@ -1,6 +1,6 @@
 -- A step and an accepted post keep the invariant. Neither changes a node or the owner of the next
 -- slot, so all parts but that of the packets stay as they are.
-use Rattle.std.proofs.Common.{◌≡◌, ℕ, ◌+◌, ◌<◌, ◌≤◌, true, false, eqb, leb, ◌⊎◌, List, [], ◌∷◌, ◌++◌, length, None, sym, refl, ap, ◌∙◌, subst, inl, inr, append-nil, arith, length-append}
+use Rattle.std.proofs.Common.{◌≡◌, ℕ, ◌+◌, ◌<◌, ◌≤◌, true, false, eqb, leb, ◌⊎◌, List, [], ◌∷◌, ◌++◌, length, None, sym, refl, ap, ◌∙◌, subst, inl, inr, append-nil, arith, length-append, Some}
 use Rattle.std.specs.List.{ContainsAt as Has}
 use Rattle.std.proofs.lemmas.Bool.{both_ways, leb-false, eqb-false}
 use Rattle.std.proofs.ByRecursion.{has_push_cases}
@@ -10,7 +10,6 @@ use Rattle.rules.specs.declared.Mode.TheVariants.{New, Recovering, Serving}
 use Rattle.rules.specs.declared.Outcome.{Outcome}
 use Rattle.rules.specs.declared.Packet.{Packet}
 use Rattle.rules.specs.declared.Refusal.TheVariants.{NodeOutOfRange, SameNode, SourceNotServing, NoEntry, WallFull}
-use Rattle.rules.specs.declared.Standing.TheVariants.{Home, At}
 use Rattle.rules.specs.declared.StepCounts.{StepCounts}
 use Rattle.rules.specs.Ports.{Ports, has}
 use Rattle.rules.specs.State.{Node, State, Entry, nothing, entry}
@@ -145,12 +144,12 @@ module _ (layout : Layout) (sound : Sound layout) (s : State) (invariant : Invar
       let clash : ◌≡◌ {A = ℕ} 0 1 = cc in
       omega arith
 
-  left_cable : (y : Packet) (p : ℕ) → LeftOf layout s.nodes s.packets y → y.standing ≡ At p →
+  left_cable : (y : Packet) (p : ℕ) → LeftOf layout s.nodes s.packets y → y.standing ≡ Some p →
       (k : ℕ) × (r : ℕ) × Cable layout y.node p k r
   left_cable y p (inl h) at = invariant.flying.port_cable y p h at
   left_cable y p (inr (x, m, q, others, h, why, is)) at =
       let node : y.node ≡ m = ap (λ z. z.node) is in
-      let port : At p ≡ At q = sym at ∙ ap (λ z. z.standing) is in
+      let port : Some p ≡ Some q = sym at ∙ ap (λ z. z.standing) is in
       let same : p ≡ q = cc in
       (x.node, why.port, rw (node, same) (sound.returns x.node why.port m q why.cable))
 
@@ -164,13 +163,13 @@ module _ (layout : Layout) (sound : Sound layout) (s : State) (invariant : Invar
   leads_on m q d count (inl there) apart = absurd (apart there.0)
   leads_on m q d count (inr (ports, fewer, p, entered, one_less, inside, may)) apart = (ports, fewer, p, entered, inside, may)
 
-  left_goes_on : (y : Packet) (a root : ℕ) → LeftOf layout s.nodes s.packets y → y.standing ≡ At a → mode_at s y.node ≡ Serving root →
+  left_goes_on : (y : Packet) (a root : ℕ) → LeftOf layout s.nodes s.packets y → y.standing ≡ Some a → mode_at s y.node ≡ Serving root →
       hand_at s y.node ≡ false → (y.node ≡ y.destination → ⊥) → Goes_on y.node a y.destination
   left_goes_on y a root (inl h) at serves down apart = invariant.flying.way_on y a root h at serves down apart
   left_goes_on y a root (inr (x, m, q, others, h, why, is)) at serves down apart =
       let node : y.node ≡ m = ap (λ z. z.node) is in
       let goal : y.destination ≡ x.destination = ap (λ z. z.destination) is in
-      let port : At a ≡ At q = sym at ∙ ap (λ z. z.standing) is in
+      let port : Some a ≡ Some q = sym at ∙ ap (λ z. z.standing) is in
       let same : a ≡ q = cc in
       rw (node, goal, same)
       (leads_on m q x.destination why.count (crossed_leads layout sound s invariant others x m q why) (rw (node, goal) at apart))
@@ -264,7 +263,7 @@ rising_push (z ∷ xs) x rises above =
         go (inl k) = rises.0 y k
         go (inr e) = rw (← e) (above z (has_first z xs))
 
-apart_home : (xs : List Packet) (x : Packet) → x.standing ≡ Home → Apart xs → Apart (xs ++ x ∷ [])
+apart_home : (xs : List Packet) (x : Packet) → x.standing ≡ None → Apart xs → Apart (xs ++ x ∷ [])
 apart_home xs x home apart =
     apart_with xs x [] (rw (append-nil xs) apart)
     (λ y n p h here there.
@@ -293,11 +292,11 @@ post_keeps layout sound s source destination word invariant accepted =
       destination_below = posted_too (λ y. y.destination < layout.count) s.packets x flying.destination_below post.destination_below;
       node_known = posted_too (λ y. mode_at s y.node ≡ New → ⊥) s.packets x flying.node_known known;
       port_cable = λ y p h.
-          posted_too (λ y. y.standing ≡ At p → (m : ℕ) × (q : ℕ) × Cable layout y.node p m q) s.packets x
+          posted_too (λ y. y.standing ≡ Some p → (m : ℕ) × (q : ℕ) × Cable layout y.node p m q) s.packets x
           (λ y h. flying.port_cable y p h) (λ at. absurd (not_home p at)) y h;
       way_on = λ y a root h.
           posted_too
-          (λ y. y.standing ≡ At a → mode_at s y.node ≡ Serving root → hand_at s y.node ≡ false → (y.node ≡ y.destination → ⊥) →
+          (λ y. y.standing ≡ Some a → mode_at s y.node ≡ Serving root → hand_at s y.node ≡ false → (y.node ≡ y.destination → ⊥) →
           Goes_on layout sound s invariant y.node a y.destination) s.packets x
           (λ y h. flying.way_on y a root h) (λ at. absurd (not_home a at)) y h;
     }
@@ -314,5 +313,5 @@ post_keeps layout sound s source destination word invariant accepted =
     known : mode_at s source ≡ New → ⊥
     known new = let serves = post.serves in let clash : ◌≡◌ {A = ℕ} 0 1 = cc in omega arith
 
-    not_home : (p : ℕ) → Home ≡ At p → ⊥
+    not_home : (p : ℕ) → None ≡ Some p → ⊥
     not_home p e = let clash : ◌≡◌ {A = ℕ} 0 1 = cc in omega arith

@@ -6,7 +6,6 @@ use Rattle.rules.specs.declared.Mode.TheVariants.{New, Recovering, Serving}
 use Rattle.rules.specs.declared.Packet.{Packet}
 use Rattle.rules.specs.declared.Refusal.{Refusal}
 use Rattle.rules.specs.declared.Refusal.TheVariants.{NodeOutOfRange, PortOutOfRange, SameNode, NoCable, AlreadyCut, SourceNotServing, NoEntry, WallFull, NumbersUsedUp}
-use Rattle.rules.specs.declared.Standing.TheVariants.{Home}
 use Rattle.rules.specs.Ports.{without}
 use Rattle.rules.specs.State.{Node, State, node_of, live_of, entry_of}
 use Rattle.rules.specs.Slot.{is_nothing}
@@ -109,7 +108,7 @@ posted s source destination word = record {
   destination = destination;
   word = word;
   node = source;
-  standing = Home;
+  standing = None;
 }
 
 unfoldable pub after_post : State → ℕ → ℕ → ℕ → State

@@ -1,5 +1,5 @@
--- Laws in the words of the field: that the definitions which compute distances, marks and floods
--- compute what they are meant to.
+-- The laws: that the definitions which compute distances, marks and floods compute what they are
+-- meant to.
 use Rattle.std.specs.Prelude.{◌≡◌, ℕ, suc, ◌+◌, ◌*◌, ◌<◌, ◌≤◌, Bool, true, false, ◌⊎◌, List, length, Some, None, ◌≢◌}
 use Rattle.wiring.specs.Layout.{Layout, Sound}
 use Rattle.rules.specs.declared.Mark.TheVariants.{Unmarked, Up, Down}

@@ -8,6 +8,7 @@ pub mod Step
 pub mod Runs
 pub mod Promise
 pub mod Laws
+pub mod Modes
 pub mod Numbers
 pub mod Walls
 pub mod Inhabited

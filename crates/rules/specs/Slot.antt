@@ -1,5 +1,5 @@
 -- A slot: its owner broadcasts as root or member or is silent, then every recovery is one slot nearer its end.
-use Rattle.std.specs.Prelude.{ℕ, zero, suc, ◌+◌, ◌%◌, Bool, true, false, cond, List, map, slice_set}
+use Rattle.std.specs.Prelude.{ℕ, zero, suc, ◌+◌, ◌%◌, Bool, true, false, cond, List, map, slice_set, None}
 use Rattle.wiring.specs.Layout.{Layout}
 use Rattle.rules.specs.declared.Act.{Act}
 use Rattle.rules.specs.declared.Act.TheVariants.{Silent, Root, Member}
@@ -7,7 +7,6 @@ use Rattle.rules.specs.declared.Mode.{Mode}
 use Rattle.rules.specs.declared.Mode.TheVariants.{New, Recovering, Serving}
 use Rattle.rules.specs.declared.Packet.{Packet}
 use Rattle.rules.specs.declared.SlotAnswer.{SlotAnswer}
-use Rattle.rules.specs.declared.Standing.TheVariants.{Home}
 use Rattle.rules.specs.Ports.{table}
 use Rattle.rules.specs.State.{Node, State, Entry, nothing, entry, node_of, mark_of, entry_of}
 use Rattle.rules.specs.Flood.{Cell, waiting, deaf, wrote, cell_of, Spread, spread}
@@ -79,7 +78,7 @@ at_home x = record {
   destination = x.destination;
   word = x.word;
   node = x.node;
-  standing = Home;
+  standing = None;
 }
 
 -- The packets standing at a node that ends its recovery go home.

@@ -1,13 +1,11 @@
 -- A step: the packets are taken once each, by rising number.
-use Rattle.std.specs.Prelude.{ℕ, ◌+◌, Bool, true, false, not, ◌&&◌, ◌||◌, List, [], ◌∷◌, ◌++◌, Some, None, ◌==◌, nat_eq}
+use Rattle.std.specs.Prelude.{ℕ, ◌+◌, Bool, true, false, not, ◌&&◌, ◌||◌, List, [], ◌∷◌, ◌++◌, Some, None, ◌==◌, nat_eq, Option}
 use Rattle.wiring.specs.Layout.{Layout}
 use Rattle.rules.specs.declared.Ending.TheVariants.{Delivered, Returned}
 use Rattle.rules.specs.declared.Mark.{Mark}
 use Rattle.rules.specs.declared.Mode.TheVariants.{New, Recovering, Serving}
 use Rattle.rules.specs.declared.Outcome.{Outcome}
 use Rattle.rules.specs.declared.Packet.{Packet}
-use Rattle.rules.specs.declared.Standing.{Standing}
-use Rattle.rules.specs.declared.Standing.TheVariants.{Home, At}
 use Rattle.rules.specs.declared.StepCounts.{StepCounts}
 use Rattle.rules.specs.Ports.{Ports, has, ports_where, some_port}
 use Rattle.rules.specs.State.{Node, State, Entry, nothing, entry, node_of, mark_of, live_of, entry_of}
@@ -18,13 +16,13 @@ unfoldable pub turn : Mark → Mark → Bool
 turn from to = is_marked from && is_marked to && not (is_up from && is_up to)
 
 -- From home any marked port is permitted.
-unfoldable pub permitted : List Node → ℕ → Standing → ℕ → Bool
-permitted nodes n Home p = is_marked (mark_of nodes n p)
-permitted nodes n (At a) p = turn (mark_of nodes n a) (mark_of nodes n p)
+unfoldable pub permitted : List Node → ℕ → Option ℕ → ℕ → Bool
+permitted nodes n None p = is_marked (mark_of nodes n p)
+permitted nodes n (Some a) p = turn (mark_of nodes n a) (mark_of nodes n p)
 
 -- Whether a packet stands at port p of node n.
 unfoldable pub stands_at : ℕ → ℕ → Packet → Bool
-stands_at n p x = x.node == n && elim x.standing [ Home ↦ false | At q ↦ nat_eq q p ]
+stands_at n p x = x.node == n && elim x.standing [ None ↦ false | Some q ↦ nat_eq q p ]
 
 unfoldable pub taken : ℕ → ℕ → List Packet → Bool
 taken n p [] = false
@@ -113,7 +111,7 @@ moved_to m q x = record {
   destination = x.destination;
   word = x.word;
   node = m;
-  standing = At q;
+  standing = Some q;
 }
 
 unfoldable pub apply : Fate → Packet → Ports × ℕ → Middle → Middle

@@ -2,8 +2,13 @@
 //! what it leaves behind, what a run of calls is, and what every run promises.
 #![tactic(auto)]
 
-ghost use Rattle.std.specs.Prelude.{◌≡◌};
+ghost use Rattle.std.specs.Prelude.{◌≡◌, not, Decides};
+ghost use Rattle.rules.specs.Calls.{not_serving};
+ghost use Rattle.rules.specs.Flood.{is_up, is_down, is_marked};
+ghost use Rattle.rules.specs.Modes.{root_in};
 ghost use Rattle.rules.specs.Numbers.{act_number, ending_number, refusal_number, mode_letter, mark_letter};
+ghost use Rattle.rules.specs.Promise.{Recovers};
+ghost use Rattle.rules.specs.Slot.{ends_recovery};
 
 pub mod theorems;
 
@@ -17,7 +22,29 @@ pub enum Mark {
 }
 
 impl Mark {
+    /// Whether the port leads towards the root.
+    pub fn is_up(self) -> bool
+        ensures { result ≡ is_up self }
+    {
+        self == Mark::Up
+    }
+
+    /// Whether the port leads away from the root.
+    pub fn is_down(self) -> bool
+        ensures { result ≡ is_down self }
+    {
+        self == Mark::Down
+    }
+
+    /// Whether the port is marked at all.
+    pub fn is_marked(self) -> bool
+        ensures { result ≡ is_marked self }
+    {
+        self != Mark::Unmarked
+    }
+
     /// The letter that a page has for it: `-`, `u` or `d`.
+    // One byte of a page, so no Display.
     pub fn letter(self) -> u8
         ensures { result ≡ mark_letter self }
     {
@@ -38,26 +65,52 @@ pub enum Mode {
 }
 
 impl Mode {
+    /// Whether it is in a recovery.
+    pub fn recovers(self) -> bool
+        ensures { Decides result (Recovers self) }
+    {
+        matches!(self, Mode::Recovering { .. })
+    }
+
+    /// Whether it serves.
+    pub fn serves(self) -> bool
+        ensures { result ≡ not (not_serving self) }
+    {
+        matches!(self, Mode::Serving { .. })
+    }
+
+    /// Whether it serves from the end of this slot on, and did not before.
+    #[tactic(auto, unfolding(crate::specs::Slot::ends_recovery))]
+    pub fn ends_recovery(self) -> bool
+        ensures { result ≡ ends_recovery self }
+    {
+        matches!(self, Mode::Recovering { left: 0 | 1, .. })
+    }
+
+    /// The root that it recovers under or serves under; none when it is new.
+    pub fn root(self) -> Option<u8>
+        ensures { result ≡ root_in self }
+    {
+        match self {
+            Mode::New => None,
+            Mode::Recovering { root, .. } | Mode::Serving { root } => Some(root),
+        }
+    }
+
     /// The letter that a page has for it: `N`, `R` or `S`.
+    // One byte of a page, so no Display.
     pub fn letter(self) -> u8
         ensures { result ≡ mode_letter self }
     {
         match self {
             Mode::New => b'N',
-            Mode::Recovering { root: _, left: _ } => b'R',
-            Mode::Serving { root: _ } => b'S',
+            Mode::Recovering { .. } => b'R',
+            Mode::Serving { .. } => b'S',
         }
     }
 }
 
-/// Where a packet stands at its node: at home, or at the port it came in by.
-#[derive(Clone, Copy, PartialEq, Eq, Debug)]
-pub enum Standing {
-    Home,
-    At(u8),
-}
-
-/// A packet in flight.
+/// A packet in flight. It stands at its node: at home, or at the port that it came in by.
 #[derive(Clone, Copy, PartialEq, Eq, Debug)]
 pub struct Packet {
     pub number: u32,
@@ -65,15 +118,15 @@ pub struct Packet {
     pub destination: u8,
     pub word: u32,
     pub node: u8,
-    pub standing: Standing,
+    pub standing: Option<u8>,
 }
 
 /// What the owner of a slot does in it.
 #[derive(Clone, Copy, PartialEq, Eq, Debug)]
 pub enum Act {
-    Silent,
-    Root,
-    Member,
+    Silent = 0,
+    Root = 1,
+    Member = 2,
 }
 
 impl Act {
@@ -81,11 +134,7 @@ impl Act {
     pub fn number(self) -> u8
         ensures { result ≡ act_number self }
     {
-        match self {
-            Act::Silent => 0,
-            Act::Root => 1,
-            Act::Member => 2,
-        }
+        self as u8
     }
 }
 
@@ -100,8 +149,8 @@ pub struct SlotAnswer {
 /// How a packet's flight ended.
 #[derive(Clone, Copy, PartialEq, Eq, Debug)]
 pub enum Ending {
-    Delivered,
-    Returned,
+    Delivered = 1,
+    Returned = 2,
 }
 
 impl Ending {
@@ -109,10 +158,7 @@ impl Ending {
     pub fn number(self) -> u8
         ensures { result ≡ ending_number self }
     {
-        match self {
-            Ending::Delivered => 1,
-            Ending::Returned => 2,
-        }
+        self as u8
     }
 }
 
@@ -126,7 +172,7 @@ pub struct Outcome {
 }
 
 /// The answer of a step: they add up to the packets in flight before it.
-#[derive(Clone, Copy, PartialEq, Eq, Debug)]
+#[derive(Clone, Copy, PartialEq, Eq, Default, Debug)]
 pub struct StepCounts {
     pub moved: u16,
     pub delivered: u16,
@@ -137,16 +183,16 @@ pub struct StepCounts {
 /// Why a wall turned a call down.
 #[derive(Clone, Copy, PartialEq, Eq, Debug)]
 pub enum Refusal {
-    NodeOutOfRange,
-    PortOutOfRange,
-    SameNode,
-    TrayTooSmall,
-    NoCable,
-    AlreadyCut,
-    SourceNotServing,
-    NoEntry,
-    WallFull,
-    NumbersUsedUp,
+    NodeOutOfRange = 12,
+    PortOutOfRange = 13,
+    SameNode = 14,
+    TrayTooSmall = 15,
+    NoCable = 16,
+    AlreadyCut = 17,
+    SourceNotServing = 18,
+    NoEntry = 19,
+    WallFull = 20,
+    NumbersUsedUp = 21,
 }
 
 impl Refusal {
@@ -154,17 +200,6 @@ impl Refusal {
     pub fn number(self) -> u8
         ensures { result ≡ refusal_number self }
     {
-        match self {
-            Refusal::NodeOutOfRange => 12,
-            Refusal::PortOutOfRange => 13,
-            Refusal::SameNode => 14,
-            Refusal::TrayTooSmall => 15,
-            Refusal::NoCable => 16,
-            Refusal::AlreadyCut => 17,
-            Refusal::SourceNotServing => 18,
-            Refusal::NoEntry => 19,
-            Refusal::WallFull => 20,
-            Refusal::NumbersUsedUp => 21,
-        }
+        self as u8
     }
 }

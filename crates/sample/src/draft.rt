@@ -2,25 +2,11 @@
 use crate::file::WallFile;
 use wiring::Cable;
 
-/// A file, and for each node and port whether a cable has it, at 4 * node + port.
+/// A file, and for each node and port whether a cable has it.
 #[derive(Drop)]
 pub(crate) struct Draft {
     pub(crate) file: WallFile,
-    taken: [bool; 256],
-}
-
-// Whether a port is free. A port out of range is not.
-fn is_free(taken: &[bool], end: (u8, u8)) -> bool {
-    let at = 4 * end.0 as usize + end.1 as usize;
-    (at < taken.len()) && !taken[at]
-}
-
-// Takes a port.
-fn take(taken: &mut [bool], end: (u8, u8)) {
-    let at = 4 * end.0 as usize + end.1 as usize;
-    if at < taken.len() {
-        taken[at] = true;
-    }
+    taken: [[bool; 4]; 64],
 }
 
 impl Draft {
@@ -28,16 +14,32 @@ impl Draft {
     pub(crate) fn new(nodes: u8) -> Draft {
         Draft {
             file: WallFile::new(nodes),
-            taken: [false; 256],
+            taken: [[false; 4]; 64],
+        }
+    }
+
+    // Whether a port is free. A port out of range is not.
+    fn is_free(&self, (node, port): (u8, u8)) -> bool {
+        self.taken
+            .get(usize::from(node))
+            .and_then(|ports| ports.get(usize::from(port)))
+            .is_some_and(|taken| !*taken)
+    }
+
+    // Takes a port.
+    fn take(&mut self, (node, port): (u8, u8)) {
+        if let Some(ports) = self.taken.get_mut(usize::from(node)) {
+            if let Some(taken) = ports.get_mut(usize::from(port)) {
+                *taken = true;
+            }
         }
     }
 
     /// Lays a cable where both ports are free and on two nodes; else nothing happens.
     pub(crate) fn lay(&mut self, start: (u8, u8), end: (u8, u8)) {
-        let taken = &mut self.taken;
-        if (start.0 != end.0) & is_free(taken, start) & is_free(taken, end) {
-            take(taken, start);
-            take(taken, end);
+        if (start.0 != end.0) && self.is_free(start) && self.is_free(end) {
+            self.take(start);
+            self.take(end);
             self.file.add(Cable { start, end });
         }
     }

@@ -10,4 +10,4 @@ mod random;
 
 pub use file::WallFile;
 pub use maker::{Partner, Plan};
-pub use random::Random;
+pub use random::{Bound, Random};

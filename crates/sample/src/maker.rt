@@ -1,5 +1,5 @@
 //! Random cable lists.
-ghost use Rattle.std.specs.Prelude.{◌≡◌, ◌+◌, ◌%◌, ◌<◌, ◌≤◌};
+ghost use Rattle.std.specs.Prelude.{◌≡◌, ◌+◌, ◌<◌, ◌≤◌};
 
 use crate::draft::Draft;
 use crate::file::WallFile;
@@ -27,22 +27,13 @@ pub struct Plan {
     pub most: u8,
 }
 
-// The rest by a divisor; 0 where the divisor is 0.
-fn rest(n: u8, by: u8) -> u8
-    ensures { (0 < by → result ≡ n % by) × (by ≡ 0 → result ≡ 0) }
-{
-    if by == 0 { 0 } else { n % by }
-}
-
 // The node after this one, round from the last to the first.
 fn next_of(node: u8, nodes: u8) -> u8
     ensures { (node + 1 < nodes → result ≡ node + 1) × (nodes ≤ node + 1 → result ≡ 0) }
 {
-    if nodes > 0 && node < nodes - 1 {
-        node + 1
-    } else {
-        0
-    }
+    node.checked_add(1)
+        .filter(|next| *next < nodes)
+        .unwrap_or(0)
 }
 
 // A random partner of a node; the node itself where the one drawn may not be joined.
@@ -52,7 +43,7 @@ fn partner_of(random: &mut Random, plan: &Plan, node: u8) -> u8 {
         Partner::Next => next_of(node, plan.nodes),
         Partner::SameRest(by) => {
             let drawn = random.below(plan.nodes);
-            if rest(drawn, by) == rest(node, by) {
+            if drawn.checked_rem(by) == node.checked_rem(by) {
                 drawn
             } else {
                 node
@@ -64,9 +55,9 @@ fn partner_of(random: &mut Random, plan: &Plan, node: u8) -> u8 {
 impl Plan {
     /// A random plan: 1 to 64 nodes, from sparse to dense, of each kind.
     pub fn any(random: &mut Random) -> Plan {
-        let nodes = 1 + random.below(64);
-        let dense = 1 + random.below(16);
-        let partner = match random.below(4) {
+        let nodes = 1 + random.below(64u8);
+        let dense = 1 + random.below(16u8);
+        let partner = match random.below(4u8) {
             0 => Partner::Next,
             1 => Partner::SameRest(2 + random.below(3)),
             _ => Partner::Any,

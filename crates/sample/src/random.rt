@@ -1,6 +1,6 @@
 //! Numbers that look random: a counter that goes on by a large odd step, and a mixing of its bits.
 //! specs/Mixing.antt has both.
-ghost use Rattle.std.specs.Prelude.{◌≡◌, ◌+◌, ◌*◌, ◌/◌, ◌%◌, ◌^◌, ◌<◌};
+ghost use Rattle.std.specs.Prelude.{◌≡◌, ℕ, ◌+◌, ◌*◌, ◌/◌, ◌%◌, ◌^◌, ◌<◌};
 ghost use Rattle.sample.specs.Mixing.{gone_on, mixed};
 
 /// The counter's step.
@@ -10,6 +10,33 @@ const STEP: u64 = 0x9e37_79b9_7f4a_7c15;
 #[derive(Clone, Copy)]
 pub struct Random {
     state: u64,
+}
+
+/// What a random number stays below: a number of an unsigned type, which the random one then has too.
+pub trait Bound: Copy {
+    ghost number: { Self → ℕ };
+
+    /// The rest of a number by this one; 0 where this one is 0.
+    fn rest_of(self, drawn: u64) -> Self
+        ensures rest { 0 < number self → number result ≡ drawn % number self }
+        ensures none { number self ≡ 0 → number result ≡ 0 };
+}
+
+impl Bound for u8 {
+    ghost number = { λ n. n };
+
+    fn rest_of(self, drawn: u64) -> u8 {
+        drawn.checked_rem(u64::from(self)).unwrap_or(0) as u8
+    }
+}
+
+// Once for each type: a usize has no From into u64.
+impl Bound for usize {
+    ghost number = { λ n. n };
+
+    fn rest_of(self, drawn: u64) -> usize {
+        drawn.checked_rem(self as u64).unwrap_or(0) as usize
+    }
 }
 
 // The bits of a number, mixed.
@@ -39,15 +66,12 @@ impl Random {
     }
 
     /// The next number below `n`; 0 where `n` is 0.
-    pub fn below(&mut self, n: u8) -> u8
+    pub fn below<N: Bound>(&mut self, n: N) -> N
         ensures state { self.new.state ≡ gone_on self.old.state }
-        ensures value { 0 < n → result ≡ mixed (gone_on self.old.state) % n }
-        ensures bound { 0 < n → result < n }
+        ensures value { 0 < N.number n → N.number result ≡ mixed (gone_on self.old.state) % N.number n }
+        ensures bound { 0 < N.number n → N.number result < N.number n }
+        ensures none { N.number n ≡ 0 → N.number result ≡ 0 }
     {
-        let drawn = self.next();
-        if n == 0 {
-            return 0;
-        }
-        (drawn % u64::from(n)) as u8
+        n.rest_of(self.next())
     }
 }

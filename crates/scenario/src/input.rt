@@ -20,18 +20,12 @@ fn next_bytes(heap: Global, input: &mut BufReader<Stdin>) -> io::Result<Option<V
     Ok(Some(line))
 }
 
-/// Prints that a line cannot be read, and gives the error that ends the run.
-pub fn unreadable(rt: &HostRuntime, number: u32, line: &[u8]) -> anyhow::Error {
-    match say_unreadable(rt, number, line) {
-        Ok(()) => anyhow!("a line cannot be read"),
-        Err(error) => error.into(),
-    }
-}
-
-fn say_unreadable(rt: &HostRuntime, number: u32, line: &[u8]) -> io::Result<()> {
+/// Prints that a line cannot be read, and ends the run by an error.
+pub fn unreadable<T>(rt: &HostRuntime, number: u32, line: &[u8]) -> anyhow::Result<T> {
     print!(rt; "line {number}: cannot read: ")?;
     rt.stdout().write_all(line)?;
-    rt.print("\n")
+    rt.print("\n")?;
+    Err(anyhow!("a line cannot be read"))
 }
 
 /// A line of the script, with its bytes.
@@ -52,12 +46,12 @@ pub fn next_line(
     };
     match read_line(rt.alloc(), bytes.as_slice()) {
         Ok(line) => Ok(Some(Read { bytes, line })),
-        Err(Trouble::CannotRead) => Err(unreadable(rt, number, bytes.as_slice())),
+        Err(Trouble::CannotRead) => unreadable(rt, number, bytes.as_slice()),
         Err(Trouble::OutOfMemory) => Err(anyhow!("out of memory")),
     }
 }
 
-/// The error of a script that is too long.
-pub fn too_long(rt: &HostRuntime) -> anyhow::Error {
+/// Prints that a script is too long, and ends the run by an error.
+pub fn too_long<T>(rt: &HostRuntime) -> anyhow::Result<T> {
     unreadable(rt, MOST_LINES + 1, b"a script has at most 65536 lines")
 }

@@ -38,7 +38,6 @@ fn main(rt: HostRuntime) -> anyhow::Result<()> {
         return Ok(());
     };
     match bench.wires {
-        Wires::Missing => Ok(()),
         Wires::Mesh(mesh) => with_wiring(&rt, &mut input, mesh, bench.picker, bench.start),
         Wires::Cables(list) => with_wiring(&rt, &mut input, list, bench.picker, bench.start),
     }

@@ -1,7 +1,7 @@
 //! The calls and questions of a script, put to its wall one after another.
 use crate::input;
 use crate::input::MOST_LINES;
-use crate::setup::Start;
+use crate::setup::{Act, Start};
 use chooser::Chooser;
 use play::{answer, make};
 use script::{Calls, Line, Question};
@@ -9,19 +9,15 @@ use std::io::{BufReader, Stdin};
 use wall::Wall;
 use wiring::Wiring;
 
-// Puts a line to a wall. A wiring or a chooser comes too late, and is not put.
 fn put<W: Wiring, C: Chooser>(
     rt: &HostRuntime,
     wall: &mut Wall<W, C>,
-    line: Line,
-) -> anyhow::Result<bool> {
-    match line {
-        Line::Blank => {}
-        Line::Make(made) => calls(rt, wall, made)?,
-        Line::Ask(asked) => question(rt, wall, asked)?,
-        _ => return Ok(false),
+    act: Act,
+) -> anyhow::Result<()> {
+    match act {
+        Act::Make(made) => calls(rt, wall, made),
+        Act::Ask(asked) => question(rt, wall, asked),
     }
-    Ok(true)
 }
 
 fn calls<W: Wiring, C: Chooser>(
@@ -51,14 +47,19 @@ pub fn play<W: Wiring + Drop, C: Chooser + Drop>(
     mut wall: Wall<W, C>,
     start: Start,
 ) -> anyhow::Result<()> {
-    put(rt, &mut wall, start.line)?;
+    put(rt, &mut wall, start.act)?;
+    // From the line before: number + 1 is then in range, whatever start says.
     for number in start.number..MOST_LINES {
         let Some(read) = input::next_line(rt, input, number + 1)? else {
             return Ok(());
         };
-        if !put(rt, &mut wall, read.line)? {
-            return Err(input::unreadable(rt, number + 1, read.bytes.as_slice()));
+        match read.line {
+            Line::Blank => {}
+            Line::Make(made) => put(rt, &mut wall, Act::Make(made))?,
+            Line::Ask(asked) => put(rt, &mut wall, Act::Ask(asked))?,
+            // A wiring or a chooser comes too late.
+            _ => return input::unreadable(rt, number + 1, read.bytes.as_slice()),
         }
     }
-    Err(input::too_long(rt))
+    input::too_long(rt)
 }

@@ -2,109 +2,90 @@
 //! chooser.
 use crate::input;
 use crate::input::{MOST_LINES, Read};
-use reply::{Wired, cables_line, mesh_line};
-use script::{Line, Picker, as_byte};
+use reply::{cables_line, mesh_line};
+use script::{Calls, Line, Picker, Question, as_byte};
 use std::io::{BufReader, Stdin};
 use wiring::{CableList, Mesh, Wiring};
 
-/// A wiring of either kind, or none yet.
+/// A wiring of either kind.
 #[derive(Clone, Copy)]
 pub enum Wires {
-    Missing,
     Mesh(Mesh),
     Cables(CableList),
 }
 
-impl Wires {
-    fn are_missing(&self) -> bool {
-        match *self {
-            Wires::Missing => true,
-            _ => false,
-        }
-    }
+/// What is put to a wall.
+#[derive(Clone, Copy)]
+pub enum Act {
+    Make(Calls),
+    Ask(Question),
 }
 
-/// The first line that is put to a wall, with its number.
-#[derive(Drop)]
+/// What is put to a wall first, with the number of its line.
+#[derive(Clone, Copy)]
 pub struct Start {
-    pub line: Line,
+    pub act: Act,
     pub number: u32,
 }
 
 /// What is needed to power a wall up, and where its script starts.
-#[derive(Drop)]
+#[derive(Clone, Copy)]
 pub struct Bench {
     pub wires: Wires,
     pub picker: Picker,
     pub start: Start,
 }
 
-fn mesh(rt: &HostRuntime, columns: u32, rows: u32) -> anyhow::Result<Wires> {
-    match Mesh::new(as_byte(columns), as_byte(rows)) {
-        Ok(mesh) => {
-            rt.print(mesh_line(rt.alloc(), columns, rows, Wired::Nodes(mesh.node_count()))?)?;
-            Ok(Wires::Mesh(mesh))
-        }
-        Err(fault) => {
-            rt.print(mesh_line(rt.alloc(), columns, rows, Wired::TurnedDown(fault.number()))?)?;
-            Ok(Wires::Missing)
-        }
-    }
+// The mesh of so many columns and rows, if there is one.
+fn mesh(rt: &HostRuntime, columns: u32, rows: u32) -> anyhow::Result<Option<Wires>> {
+    let mesh = Mesh::new(as_byte(columns), as_byte(rows));
+    let nodes = mesh.map(|mesh| mesh.node_count());
+    rt.print(mesh_line(rt.alloc(), columns, rows, nodes)?)?;
+    Ok(mesh.ok().map(Wires::Mesh))
 }
 
-fn cables(rt: &HostRuntime, bytes: &[u8]) -> anyhow::Result<Wires> {
+// The wiring of a wall file, if that is a good one.
+fn cables(rt: &HostRuntime, bytes: &[u8]) -> anyhow::Result<Option<Wires>> {
     let mut list = CableList::new();
-    match list.read(bytes) {
-        Ok(()) => {
-            rt.print(cables_line(rt.alloc(), Wired::Nodes(list.node_count()))?)?;
-            Ok(Wires::Cables(list))
-        }
-        Err(fault) => {
-            let number = fault.number();
-            let place = fault.place();
-            rt.print(cables_line(rt.alloc(), Wired::TurnedDownAt { number, place })?)?;
-            Ok(Wires::Missing)
-        }
-    }
+    let read = list.read(bytes);
+    rt.print(cables_line(rt.alloc(), read.map(|()| list.node_count()))?)?;
+    Ok(read.ok().map(|()| Wires::Cables(list)))
 }
 
 /// Reads the front of a script, up to its first call or question. Nothing where it has none.
 pub fn set_up(rt: &HostRuntime, input: &mut BufReader<Stdin>) -> anyhow::Result<Option<Bench>> {
-    let mut wires = Wires::Missing;
+    let mut wires = None;
     let mut picker = None;
     for number in 1..=MOST_LINES {
         let Some(read) = input::next_line(rt, input, number)? else {
             return Ok(None);
         };
-        let missing = wires.are_missing();
         let Read { bytes: text, line } = read;
-        match line {
-            Line::Blank => {}
-            Line::Mesh { columns, rows } if missing => wires = mesh(rt, columns, rows)?,
-            Line::Cables(bytes) if missing => wires = cables(rt, bytes.as_slice())?,
-            Line::Chooser(chosen) if !missing && picker.is_none() => picker = Some(chosen),
-            Line::Make(calls) if !missing => {
-                return Ok(Some(Bench {
-                    wires,
-                    picker: picker.unwrap_or(Picker::Lowest),
-                    start: Start {
-                        line: Line::Make(calls),
-                        number,
-                    },
-                }));
+        let (wires, act) = match (line, wires) {
+            (Line::Blank, _) => continue,
+            (Line::Mesh { columns, rows }, None) => {
+                wires = mesh(rt, columns, rows)?;
+                continue;
             }
-            Line::Ask(question) if !missing => {
-                return Ok(Some(Bench {
-                    wires,
-                    picker: picker.unwrap_or(Picker::Lowest),
-                    start: Start {
-                        line: Line::Ask(question),
-                        number,
-                    },
-                }));
+            (Line::Cables(bytes), None) => {
+                wires = cables(rt, bytes.as_slice())?;
+                continue;
             }
-            _ => return Err(input::unreadable(rt, number, text.as_slice())),
-        }
+            (Line::Chooser(chosen), Some(_)) if picker.is_none() => {
+                picker = Some(chosen);
+                continue;
+            }
+            (Line::Make(calls), Some(wires)) => (wires, Act::Make(calls)),
+            (Line::Ask(question), Some(wires)) => (wires, Act::Ask(question)),
+            _ => return input::unreadable(rt, number, text.as_slice()),
+        };
+        let picker = picker.unwrap_or(Picker::Lowest);
+        let start = Start { act, number };
+        return Ok(Some(Bench {
+            wires,
+            picker,
+            start,
+        }));
     }
-    Err(input::too_long(rt))
+    input::too_long(rt)
 }

@@ -1,65 +1,61 @@
--- Reading a decimal number from the left: what is left of the word says what is left to be read.
-use Rattle.std.proofs.Common.{◌≡◌, ℕ, ◌+◌, ◌-◌, ◌*◌, ◌^◌, ◌<◌, ◌≤◌, true, false, ◌&&◌, ltb, List, [], ◌∷◌, length, get_or, drop, Some, None, refl, ap, ◌∙◌, add-one, arith, drop-cons}
-use Rattle.std.specs.Str.Parse.{digits_value, digits_value_after}
-use Rattle.std.specs.Char.{is_ascii_digit, digit_value}
-use Rattle.std.specs.Str.{all_ascii_digits}
-use Rattle.std.proofs.lemmas.List.{drop_all}
-use Rattle.std.proofs.lemmas.Bool.{lt-ltb, le-ltb, and_left, and_right, and_from, cond-true, cond-false}
+-- A word of decimal digits is what the library parses.
+use Rattle.std.proofs.Common.{◌≡◌, ℕ, ◌<◌, Bool, true, false, ◌&&◌, List, [], ◌∷◌, Some, None, Ok, Err, Result, Bor, MatchResult, sym, refl, ap, ◌∙◌, arith, subst}
+use Rattle.std.specs.Char.{is_ascii_digit}
+use Rattle.std.specs.List.{list_all}
+use Rattle.std.specs.Result.{result_ok}
+use Rattle.std.specs.Str.{all_ascii_digits, IsAscii, IsUtf8}
+use Rattle.std.specs.Str.Parse.{digits_value, ParsesUnsigned}
+use Rattle.std.proofs.lemmas.Bool.{lt-ltb, ltb-true, and_left, and_right, and_from, and_parts, cond-true, cond-false}
 use Rattle.std.proofs.lemmas.Bool.Decides.{nat_tests}
+use Rattle.std.proofs.lemmas.Str.{IsUtf8-from_ascii}
+use Rattle.std.proofs.lemmas.Str.Ascii.{IsAscii-nil, IsAscii-cons}
+use Rattle.std.proofs.lemmas.Str.Parse.{IsNumeralModel, numerals_by_value, tells_all_ascii_digits, parse_digits}
 use Rattle.script.specs.Numbers.{is_number, number_of}
 
--- After i bytes, all digits, that write n.
-pub record Sofar (word : List ℕ) (i n : ℕ) : Type 0 where
-  pub digits : all_ascii_digits word ≡ all_ascii_digits (drop i word)
-  pub reads : digits_value 10 word ≡ digits_value_after 10 n (drop i word)
-  pub small : n < 2 ^ 32
+pub all_digits : (word : List ℕ) → list_all is_ascii_digit word ≡ all_ascii_digits word
+all_digits [] = refl
+all_digits (c ∷ cs) = ap (λ b. is_ascii_digit c && b) (all_digits cs)
 
-module _ (word : List ℕ) where
-  pub none : Sofar word 0 0
-  none = record { digits = refl; reads = refl; small = omega arith }
+pub no_number : (word : List ℕ) → false ≡ list_all is_ascii_digit word → None ≡ number_of word
+unfolding number_of
+no_number word e = sym (cond-false _ _ _ (and_right _ _ (and_left _ _ (sym (e ∙ all_digits word)))))
 
-  module _ (i n : ℕ) (h : Sofar word i n) (lt : i < length word) where
-    first : drop i word ≡ get_or word i 0 ∷ drop (i + 1) word
-    first = rw (add-one, drop-cons word i 0)
+small : (c : ℕ) → is_ascii_digit c ≡ true → c < 128
+small c e = grind (arith, nat_tests)
 
-    digits_on : all_ascii_digits word ≡ (is_ascii_digit (get_or word i 0) && all_ascii_digits (drop (i + 1) word))
-    digits_on = h.digits ∙ ap all_ascii_digits first
+ascii : (word : List ℕ) → all_ascii_digits word ≡ true → IsAscii word
+ascii [] e = IsAscii-nil
+ascii (c ∷ cs) e = let parts = and_parts (is_ascii_digit c) (all_ascii_digits cs) e in IsAscii-cons c cs (small c parts.0) (ascii cs parts.1)
 
-    pub not_digit : is_ascii_digit (get_or word i 0) ≡ false → is_number word ≡ false
-    not_digit e = and_right (ltb 0 (length word)) _ (and_left _ _ (digits_on ∙ and_left _ _ e))
+pub utf8 : (word : List ℕ) → true ≡ list_all is_ascii_digit word → IsUtf8 word
+utf8 word e = IsUtf8-from_ascii word (ascii word (sym (e ∙ all_digits word)))
 
-    reads_on : (m : ℕ) → is_ascii_digit (get_or word i 0) ≡ true → m ≡ 10 * n + (get_or word i 0 - 48) → digits_value 10 word ≡ digits_value_after 10 m (drop (i + 1) word)
-    reads_on m d e =
-        let v : digit_value (get_or word i 0) ≡ get_or word i 0 - 48 = grind (arith, nat_tests) in
-        h.reads ∙ ap (digits_value_after 10 n) first ∙ ap (λ k. digits_value_after 10 k (drop (i + 1) word)) (omega arith)
+own : IsNumeralModel (λ ds. all_ascii_digits ds ≡ true) (digits_value 10)
+own = numerals_by_value _ tells_all_ascii_digits
 
-    pub more : (m : ℕ) → is_ascii_digit (get_or word i 0) ≡ true → m ≡ 10 * n + (get_or word i 0 - 48) → m < 2 ^ 32 → Sofar word (i + 1) m
-    more m d e small = record {
-      digits = digits_on ∙ ap (λ b. b && all_ascii_digits (drop (i + 1) word)) d;
-      reads = reads_on m d e;
-      small = small;
-    }
-
-    value_ge : (k : ℕ) (ds : List ℕ) → k ≤ digits_value_after 10 k ds
-    value_ge k [] = omega arith
-    value_ge k (c ∷ cs) = omega (arith, value_ge (k * 10 + digit_value c) cs)
-
-    pub too_large : (m : ℕ) → is_ascii_digit (get_or word i 0) ≡ true → m ≡ 10 * n + (get_or word i 0 - 48) → 2 ^ 32 ≤ m → is_number word ≡ false
-    too_large m d e large =
-        let over : 2 ^ 32 ≤ digits_value 10 word = omega (arith, reads_on m d e, value_ge m (drop (i + 1) word)) in
-        and_right (ltb 0 (length word)) _ (and_right (all_ascii_digits word) _ (le-ltb _ _ over))
-
-  pub all_read : (i n : ℕ) → Sofar word i n → 0 < length word → length word ≤ i → number_of word ≡ Some n
+module _ {E : Type 0} (word : List ℕ) where
+  parsed_digits : (r : Result ℕ E) → all_ascii_digits word ≡ true → ParsesUnsigned 32 10 word r → result_ok r ≡ number_of word
   unfolding number_of
-  all_read i n h some all =
-      let rest : drop i word ≡ [] = drop_all i word all in
-      let v : digits_value 10 word ≡ n = h.reads ∙ ap (digits_value_after 10 n) rest in
-      let small : digits_value 10 word < 2 ^ 32 = omega (arith, h.small) in
-      cond-true _ _ _ (and_from _ _ (lt-ltb _ _ some) (and_from _ _ (h.digits ∙ ap all_ascii_digits rest) (lt-ltb _ _ small))) ∙ ap Some v
+  parsed_digits (Ok n) d h =
+      let p = parse_digits own {E = E} 32 word (Ok n) h d in
+      ap Some p.1 ∙ sym (cond-true _ _ _ (and_from _ _ (lt-ltb _ _ p.0.0) (and_from _ _ d (lt-ltb _ _ p.0.1))))
+  parsed_digits (Err e) d h = sym (cond-false _ _ _ (go (is_number word) refl))
+    where
+      go : (b : Bool) → is_number word ≡ b → is_number word ≡ false
+      go false n = n
+      go true n =
+          let parts = and_parts _ _ n in
+          let inner = and_parts _ _ parts.1 in
+          absurd (parse_digits own {E = E} 32 word (Err e) h d (ltb-true _ _ parts.0, ltb-true _ _ inner.1))
 
-  pub no_digit : length word ≡ 0 → is_number word ≡ false
-  no_digit e = and_left _ _ (le-ltb 0 (length word) (omega arith))
+  pub parsed : (text : List ℕ) (r : Result ℕ E) → true ≡ list_all is_ascii_digit word → text ≡ word → ParsesUnsigned 32 10 text r → result_ok r ≡ number_of word
+  parsed text r d e h = parsed_digits r (sym (d ∙ all_digits word)) (subst (λ t. ParsesUnsigned 32 10 t r) e h)
 
-  pub refused : is_number word ≡ false → number_of word ≡ None
-  unfolding number_of
-  refused e = cond-false _ _ _ e
+-- The text of a word, where it is one.
+pub text_is : {E : Type 0} (P : Type 0) (Q : E → Type 0) (word : List ℕ) (r : Result (Bor (List ℕ)) E) (s : Bor (List ℕ)) → Some s ≡ result_ok r → MatchResult r (λ t. (t.now ≡ word) × P) Q → s.now ≡ word
+text_is P Q word (Ok t) s e h = let same : s ≡ t = cc in ap (λ x. x.now) same ∙ h.0
+text_is P Q word (Err x) s e h = cc
+
+pub no_text : {E : Type 0} (P : Bor (List ℕ) → Type 0) (Q : E → Type 0) (word : List ℕ) (r : Result (Bor (List ℕ)) E) → true ≡ list_all is_ascii_digit word → None ≡ result_ok r → MatchResult r P (λ e. (¬ (IsUtf8 word)) × Q e) → ⊥
+no_text P Q word (Ok t) d e h = cc
+no_text P Q word (Err x) d e h = h.0 (utf8 word d)

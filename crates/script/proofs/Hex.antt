@@ -1,52 +1,71 @@
--- Reading hexadecimal digits from the left, two at a time.
-use Rattle.std.proofs.Common.{◌≡◌, ℕ, ◌+◌, ◌<◌, ◌≤◌, List, [], ◌∷◌, ◌++◌, length, get_or, drop, Some, None, Option, sym, refl, ap, ◌∙◌, append_assoc, append-nil, add_assoc, arith}
-use Rattle.std.specs.Option.{option_map}
-use Rattle.std.proofs.lemmas.List.{drop_all, drop_more}
-use Rattle.script.specs.Numbers.{hex_digit, hex_byte, byte_before, bytes_of}
+-- The bytes of a word of hexadecimal digits are what the library decodes.
+use Rattle.std.proofs.Common.{◌≡◌, ℕ, ◌+◌, ◌*◌, ◌%◌, ◌==◌, Bool, true, false, cond, List, [], ◌∷◌, length, Some, None, Ok, Err, Option, Result, refl, ap, sym, ◌∙◌, arith, mul_comm, subst, ◌⊎◌, inl, inr, Vec, IsErr, IsErrAnd}
+use Rattle.std.specs.declared.alloc.Global.{Global}
+use Rattle.std.proofs.lemmas.Bool.{eqb-true}
+use Rattle.script.specs.declared.trouble.Trouble.{Trouble}
+use Rattle.script.specs.Troubles.{trouble_of}
+use Rattle.std.proofs.lemmas.Bool.Decides.{nat_tests}
+use Rattle.hex.specs.declared.error.FromHexError.{FromHexError}
+use Rattle.hex.specs.declared.error.FromHexError.TheVariants.{InvalidHexCharacter, OddLength, InvalidStringLength, OutOfMemory}
+use Rattle.hex.specs.Hex.{decode_of, decode_pairs, hex_digit_value, pair_value, digit_or_error, ◌>>=◌}
+use Rattle.script.specs.Numbers.{hex_digit, hex_byte, put_before, bytes_of, ReadsBytes}
 
--- The first i digits wrote `bytes`.
-pub record Sofar (word : List ℕ) (i : ℕ) (bytes : List ℕ) : Type 0 where
-  pub inside : i ≤ length word
-  pub reads : bytes_of word ≡ option_map (λ rest. bytes ++ rest) (bytes_of (drop i word))
+-- What is read, or nothing.
+abbrev pub read : {X : Type 0} → Result X FromHexError → Option X
+read (Ok x) = Some x
+read (Err e) = None
 
-same : (o : Option (List ℕ)) → o ≡ option_map (λ rest. [] ++ rest) o
-same None = refl
-same (Some bytes) = refl
+same_digit : (c : ℕ) → hex_digit_value c ≡ hex_digit c
+same_digit c = grind (arith, nat_tests)
 
-pub none : (word : List ℕ) → Sofar word 0 []
-none word = record { inside = omega arith; reads = same (bytes_of word) }
+-- The byte of two digits.
+byte_read : (x y : Option ℕ) (h l i : ℕ) → read (digit_or_error h i x >>= (λ a. digit_or_error l (i + 1) y >>= (λ b. Ok (a * 16 + b)))) ≡ hex_byte x y
+byte_read None y h l i = refl
+byte_read (Some a) None h l i = refl
+byte_read (Some a) (Some b) h l i = ap (λ n. Some (n + b)) (mul_comm a 16)
 
-put : (bytes : List ℕ) (b : ℕ) (o : Option (List ℕ)) → option_map (λ rest. bytes ++ rest) (byte_before (Some b) o) ≡ option_map (λ rest. (bytes ++ b ∷ []) ++ rest) o
-put bytes b None = refl
-put bytes b (Some rest) = ap Some (sym (append_assoc bytes (b ∷ []) rest))
+-- A byte before what is read of the rest.
+put_read : (byte : Result ℕ FromHexError) (rest : Result (List ℕ) FromHexError) → read (byte >>= (λ b. rest >>= (λ bytes. Ok (b ∷ bytes)))) ≡ put_before (read byte) (read rest)
+put_read (Err e) rest = refl
+put_read (Ok b) (Err e) = refl
+put_read (Ok b) (Ok bytes) = refl
 
-module _ (word : List ℕ) (i : ℕ) (bytes : List ℕ) (h : Sofar word i bytes) where
-  module _ (lt : i + 1 < length word) where
-    two : drop i word ≡ get_or word i 0 ∷ get_or word (i + 1) 0 ∷ drop (i + 2) word
-    two =
-        let a = drop_more word i 0 (omega arith) in
-        let b = drop_more word (i + 1) 0 lt in
-        a ∙ ap (λ t. get_or word i 0 ∷ t) (b ∙ ap (λ k. get_or word (i + 1) 0 ∷ drop k word) (add_assoc i 1 1))
+pub pairs_read : (i : ℕ) (word : List ℕ) → bytes_of word ≡ read (decode_pairs i word)
+unfolding bytes_of decode_pairs
+pairs_read i [] = refl
+pairs_read i (d ∷ []) = refl
+pairs_read i (h ∷ l ∷ rest) =
+    let digits : hex_byte (hex_digit_value h) (hex_digit_value l) ≡ hex_byte (hex_digit h) (hex_digit l) = (λ k. hex_byte (same_digit h k) (same_digit l k)) in
+    let byte = byte_read (hex_digit_value h) (hex_digit_value l) h l i ∙ digits in
+    (λ k. put_before (sym byte k) (pairs_read (i + 2) rest k)) ∙ sym (put_read (pair_value h l i) (decode_pairs (i + 2) rest))
 
-    reads_on : bytes_of word ≡ option_map (λ rest. bytes ++ rest) (byte_before (hex_byte (hex_digit (get_or word i 0)) (hex_digit (get_or word (i + 1) 0))) (bytes_of (drop (i + 2) word)))
-    unfolding bytes_of
-    reads_on = h.reads ∙ ap (λ t. option_map (λ rest. bytes ++ rest) (bytes_of t)) two
+nothing_before : (b : Option ℕ) → put_before b None ≡ None
+nothing_before None = refl
+nothing_before (Some b) = refl
 
-    pub more : (b : ℕ) → Some b ≡ hex_byte (hex_digit (get_or word i 0)) (hex_digit (get_or word (i + 1) 0)) → Sofar word (i + 2) (bytes ++ b ∷ [])
-    more b e = record {
-      inside = omega arith;
-      reads = reads_on ∙ ap (λ o. option_map (λ rest. bytes ++ rest) (byte_before o (bytes_of (drop (i + 2) word)))) (sym e) ∙ put bytes b (bytes_of (drop (i + 2) word));
-    }
+odd_none : (word : List ℕ) → length word % 2 ≡ 1 → bytes_of word ≡ None
+unfolding bytes_of
+odd_none [] e = absurd (omega arith)
+odd_none (d ∷ []) e = refl
+odd_none (h ∷ l ∷ rest) e = ap (put_before (hex_byte (hex_digit h) (hex_digit l))) (odd_none rest (omega arith)) ∙ nothing_before _
 
-    pub bad_digit : None ≡ hex_byte (hex_digit (get_or word i 0)) (hex_digit (get_or word (i + 1) 0)) → bytes_of word ≡ None
-    bad_digit e = reads_on ∙ ap (λ o. option_map (λ rest. bytes ++ rest) (byte_before o (bytes_of (drop (i + 2) word)))) (sym e)
+pub word_read : (word : List ℕ) → bytes_of word ≡ read (decode_of word)
+word_read word = go (length word % 2 == 1) (eqb-true _ _)
+  where
+    go : (odd : Bool) → (odd ≡ true → length word % 2 ≡ 1) → bytes_of word ≡ read (cond odd (Err OddLength) (decode_pairs 0 word))
+    go true e = odd_none word (e refl)
+    go false e = pairs_read 0 word
 
-  pub odd : i < length word → length word ≤ i + 1 → bytes_of word ≡ None
-  unfolding bytes_of
-  odd lt all =
-      let last : drop i word ≡ get_or word i 0 ∷ [] = drop_more word i 0 lt ∙ ap (λ t. get_or word i 0 ∷ t) (drop_all (i + 1) word all) in
-      h.reads ∙ ap (λ t. option_map (λ rest. bytes ++ rest) (bytes_of t)) last
+-- What an error of the digits says of the word.
+refused : (word : List ℕ) (e : FromHexError) → (e ≡ OutOfMemory) ⊎ (decode_of word ≡ Err e) → ReadsBytes (bytes_of word) (Err (trouble_of e))
+refused word (InvalidHexCharacter c i) (inl same) = cc
+refused word (InvalidHexCharacter c i) (inr is) = word_read word ∙ ap read is
+refused word OddLength (inl same) = cc
+refused word OddLength (inr is) = word_read word ∙ ap read is
+refused word InvalidStringLength (inl same) = cc
+refused word InvalidStringLength (inr is) = word_read word ∙ ap read is
+refused word OutOfMemory why = tt
 
-  pub all_read : length word ≤ i → bytes_of word ≡ Some bytes
-  unfolding bytes_of
-  all_read all = h.reads ∙ ap (λ t. option_map (λ rest. bytes ++ rest) (bytes_of t)) (drop_all i word all) ∙ ap Some (append-nil bytes)
+pub told : (word : List ℕ) (e : FromHexError) (r : Result (Vec ℕ Global) Trouble) → IsErr r × IsErrAnd r (λ t. t ≡ trouble_of e) → (e ≡ OutOfMemory) ⊎ (decode_of word ≡ Err e) → ReadsBytes (bytes_of word) r
+told word e (Ok v) h why = absurd h.1
+told word e (Err t) h why = subst (λ t. ReadsBytes (bytes_of word) (Err t)) (sym h.1) (refused word e why)

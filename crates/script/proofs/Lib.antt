@@ -1,3 +1,4 @@
-pub mod Chains
+pub mod Counted
 pub mod Decimal
 pub mod Hex
+pub mod Runs

@@ -1,5 +1,6 @@
 -- What each line of a script says.
-use Rattle.std.specs.Prelude.{◌≡◌, ℕ, ◌^◌, Bool, true, false, cond, List, length, Some, None, Ok, Err, vec_items, codes, Option, Result, ◌==◌, nat_lt}
+use Rattle.std.specs.Prelude.{◌≡◌, ℕ, zero, suc, ◌^◌, Bool, true, false, cond, List, [], length, slice_index, option_and_then, Some, None, Ok, Err, vec_items, codes, Option, Result, ◌==◌, nat_lt}
+use Rattle.std.specs.Bool.{then_some}
 use Rattle.std.specs.Option.{option_map}
 use Rattle.std.specs.Str.{bytes_eq}
 use Rattle.script.specs.declared.line.Call.{Call}
@@ -14,61 +15,42 @@ use Rattle.script.specs.declared.line.Line.TheVariants as line
 use Rattle.script.specs.declared.trouble.Trouble.{Trouble}
 use Rattle.script.specs.declared.trouble.Trouble.TheVariants.{CannotRead, OutOfMemory}
 use Rattle.script.specs.Words.{code_of, first_word, past_word}
-use Rattle.script.specs.Numbers.{number_of, bytes_of}
+use Rattle.script.specs.Numbers.{number_of, put_before, bytes_of}
 
 -- Whether a text has no word.
 abbrev pub no_word : List ℕ → Bool
 no_word text = length (first_word text) == 0
-
--- A value, where a test holds.
-abbrev pub only_if : {X : Type 0} → Bool → X → Option X
-only_if true x = Some x
-only_if false x = None
 
 -- What was read, where nothing comes behind it.
 abbrev pub if_last : {X : Type 0} → Bool → Option X → Option X
 if_last true x = x
 if_last false x = None
 
--- A text of one number, of two, of three, and of nothing else.
-abbrev pub one_number : List ℕ → Option ℕ
-one_number text = if_last (no_word (past_word text)) (number_of (first_word text))
-
-abbrev pub pair_up : {X Y : Type 0} → Option X → Option Y → Option (X × Y)
-pair_up None y = None
-pair_up (Some x) None = None
-pair_up (Some x) (Some y) = Some (x, y)
-
-abbrev pub two_numbers : List ℕ → Option (ℕ × ℕ)
-two_numbers text = pair_up (number_of (first_word text)) (one_number (past_word text))
-
-abbrev pub three_numbers : List ℕ → Option (ℕ × (ℕ × ℕ))
-three_numbers text = pair_up (number_of (first_word text)) (two_numbers (past_word text))
+-- A text of so many numbers, and of nothing else.
+unfoldable pub numbers_of : ℕ → List ℕ → Option (List ℕ)
+numbers_of zero text = then_some (no_word text) []
+numbers_of (suc n) text = put_before (number_of (first_word text)) (numbers_of n (past_word text))
 
 -- Calls
 
 abbrev pub once_call : Call → Calls
 once_call call = record { call = call; times = 1 }
 
-abbrev pub cut_call : ℕ × ℕ → Calls
-cut_call a = once_call (Cut a.0 a.1)
+abbrev pub cut_call : List ℕ → Calls
+cut_call ns = once_call (Cut (slice_index ns 0) (slice_index ns 1))
 
-abbrev pub hand_call : ℕ → Calls
-hand_call n = once_call (Hand n)
+abbrev pub hand_call : List ℕ → Calls
+hand_call ns = once_call (Hand (slice_index ns 0))
 
-abbrev pub post_call : ℕ × (ℕ × ℕ) → Calls
-post_call a = once_call (Post a.0 a.1.0 a.1.1)
+abbrev pub post_call : List ℕ → Calls
+post_call ns = once_call (Post (slice_index ns 0) (slice_index ns 1) (slice_index ns 2))
 
 abbrev pub step_call : ℕ → Calls
 step_call free = once_call (Step free)
 
 -- A slot is repeated at most 65535 times.
 abbrev pub slots : ℕ → Option Calls
-slots times = only_if (nat_lt times (2 ^ 16)) (record { call = Slot; times = times })
-
-abbrev pub slot_calls : Option ℕ → Option Calls
-slot_calls None = None
-slot_calls (Some times) = slots times
+slots times = then_some (nat_lt times (2 ^ 16)) (record { call = Slot; times = times })
 
 -- The free places of a step's tray where none are written.
 abbrev pub whole_tray : ℕ
@@ -76,35 +58,35 @@ whole_tray = 256
 
 -- A number that may be left out.
 abbrev pub number_or : ℕ → List ℕ → Option ℕ
-number_or default text = cond (no_word text) (Some default) (one_number text)
+number_or default text = cond (no_word text) (Some default) (option_map (λ ns. slice_index ns 0) (numbers_of 1 text))
 
 unfoldable pub call_of : List ℕ → List ℕ → Option Calls
 call_of name rest =
-    cond (bytes_eq name (codes "cut")) (option_map cut_call (two_numbers rest))
-    (cond (bytes_eq name (codes "hand")) (option_map hand_call (one_number rest))
-    (cond (bytes_eq name (codes "slot")) (slot_calls (number_or 1 rest))
-    (cond (bytes_eq name (codes "post")) (option_map post_call (three_numbers rest))
+    cond (bytes_eq name (codes "cut")) (option_map cut_call (numbers_of 2 rest))
+    (cond (bytes_eq name (codes "hand")) (option_map hand_call (numbers_of 1 rest))
+    (cond (bytes_eq name (codes "slot")) (option_and_then slots (number_or 1 rest))
+    (cond (bytes_eq name (codes "post")) (option_map post_call (numbers_of 3 rest))
     (cond (bytes_eq name (codes "step")) (option_map step_call (number_or whole_tray rest)) None))))
 
 -- Questions
 
-abbrev pub mode_question : ℕ → Question
-mode_question n = Mode n
+abbrev pub mode_question : List ℕ → Question
+mode_question ns = Mode (slice_index ns 0)
 
-abbrev pub entry_question : ℕ × ℕ → Question
-entry_question a = Entry a.0 a.1
+abbrev pub entry_question : List ℕ → Question
+entry_question ns = Entry (slice_index ns 0) (slice_index ns 1)
 
-abbrev pub marks_question : ℕ → Question
-marks_question n = Marks n
+abbrev pub marks_question : List ℕ → Question
+marks_question ns = Marks (slice_index ns 0)
 
 unfoldable pub question_of : List ℕ → List ℕ → Option Question
 question_of name rest =
-    cond (bytes_eq name (codes "mode")) (option_map mode_question (one_number rest))
-    (cond (bytes_eq name (codes "entry")) (option_map entry_question (two_numbers rest))
-    (cond (bytes_eq name (codes "marks")) (option_map marks_question (one_number rest))
-    (cond (bytes_eq name (codes "hands")) (only_if (no_word rest) Hands)
-    (cond (bytes_eq name (codes "calm")) (only_if (no_word rest) Calm)
-    (cond (bytes_eq name (codes "flight")) (only_if (no_word rest) Flight) None)))))
+    cond (bytes_eq name (codes "mode")) (option_map mode_question (numbers_of 1 rest))
+    (cond (bytes_eq name (codes "entry")) (option_map entry_question (numbers_of 2 rest))
+    (cond (bytes_eq name (codes "marks")) (option_map marks_question (numbers_of 1 rest))
+    (cond (bytes_eq name (codes "hands")) (then_some (no_word rest) Hands)
+    (cond (bytes_eq name (codes "calm")) (then_some (no_word rest) Calm)
+    (cond (bytes_eq name (codes "flight")) (then_some (no_word rest) Flight) None)))))
 
 -- Lines
 
@@ -125,14 +107,8 @@ meaning (line.Chooser picker) = chooser picker
 meaning (line.Make calls) = make calls
 meaning (line.Ask question) = ask question
 
-abbrev pub cables_meaning : List ℕ → Meaning
-cables_meaning bytes = cables bytes
-
-abbrev pub chooser_meaning : Picker → Meaning
-chooser_meaning picker = chooser picker
-
-abbrev pub mesh_meaning : ℕ × ℕ → Meaning
-mesh_meaning a = mesh a.0 a.1
+abbrev pub mesh_meaning : List ℕ → Meaning
+mesh_meaning ns = mesh (slice_index ns 0) (slice_index ns 1)
 
 abbrev pub picker_named : List ℕ → Option Picker
 picker_named word =
@@ -152,9 +128,9 @@ first_of (Some x) b = Some x
 
 unfoldable pub named_meaning : List ℕ → List ℕ → Option Meaning
 named_meaning name rest =
-    cond (bytes_eq name (codes "mesh")) (option_map mesh_meaning (two_numbers rest))
-    (cond (bytes_eq name (codes "cables")) (option_map cables_meaning (cables_of rest))
-    (cond (bytes_eq name (codes "chooser")) (option_map chooser_meaning (picker_of rest))
+    cond (bytes_eq name (codes "mesh")) (option_map mesh_meaning (numbers_of 2 rest))
+    (cond (bytes_eq name (codes "cables")) (option_map cables (cables_of rest))
+    (cond (bytes_eq name (codes "chooser")) (option_map chooser (picker_of rest))
     (first_of (option_map make (call_of name rest)) (option_map ask (question_of name rest)))))
 
 -- A line without its comment: blank, or a name and what follows it.

@@ -27,17 +27,17 @@ hex_byte None low = None
 hex_byte (Some h) None = None
 hex_byte (Some h) (Some l) = Some (16 * h + l)
 
--- A byte in front of others, where all are known.
-abbrev pub byte_before : Option ℕ → Option (List ℕ) → Option (List ℕ)
-byte_before None bytes = None
-byte_before (Some b) None = None
-byte_before (Some b) (Some bytes) = Some (b ∷ bytes)
+-- A number in front of others, where all are known.
+abbrev pub put_before : Option ℕ → Option (List ℕ) → Option (List ℕ)
+put_before None rest = None
+put_before (Some n) None = None
+put_before (Some n) (Some rest) = Some (n ∷ rest)
 
 -- The bytes that hexadecimal digits write, two to a byte.
 unfoldable pub bytes_of : List ℕ → Option (List ℕ)
 bytes_of [] = Some []
 bytes_of (h ∷ []) = None
-bytes_of (h ∷ l ∷ rest) = byte_before (hex_byte (hex_digit h) (hex_digit l)) (bytes_of rest)
+bytes_of (h ∷ l ∷ rest) = put_before (hex_byte (hex_digit h) (hex_digit l)) (bytes_of rest)
 
 -- What a reader of hexadecimal digits answers: the bytes, that it cannot read them, or that memory
 -- fails, of which nothing is said.

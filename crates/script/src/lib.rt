@@ -1,5 +1,5 @@
-//! Scripts of calls on a wall: reading a line, and the text of every answer. specs/ says what each
-//! line means and what is printed.
+//! Scripts of calls on a wall: reading a line, and the text of calls and questions. specs/ says what
+//! each line means and what is printed.
 #![tactic(auto)]
 
 pub mod line;

@@ -1,20 +1,13 @@
 //! Reading a line. specs/Lines.antt says what each line means.
 ghost use Rattle.std.specs.Prelude.{◌≡◌};
 ghost use Rattle.std.specs.Option.{option_map};
-ghost use Rattle.std.specs.Str.{bytes_eq};
-ghost use Rattle.script.specs.Lines.{no_word, one_number, two_numbers, three_numbers, number_or, once_call, cut_call, hand_call, slot_calls, post_call, step_call, call_of, mode_question, entry_question, marks_question, only_if, question_of, cables_of, picker_of, first_of, named_meaning, meaning_of, mesh_meaning, cables_meaning, chooser_meaning, make, ask, Says};
+ghost use Rattle.script.specs.Lines.{no_word, numbers_of, number_or, once_call, slots, call_of, question_of, cables_of, picker_of, cables, named_meaning, meaning_of, Says};
 
 use crate::line::{Call, Calls, Line, Picker, Question};
 use crate::numbers::{hex_bytes, number};
 use crate::trouble::Trouble;
 use crate::words::{code, split_word};
 use std::alloc::Global;
-
-fn same(word: &[u8], name: &[u8]) -> bool
-    ensures { result ≡ bytes_eq word.now name.now }
-{
-    word == name
-}
 
 fn nothing(text: &[u8]) -> bool
     ensures { result ≡ no_word text.now }
@@ -23,41 +16,29 @@ fn nothing(text: &[u8]) -> bool
     word.is_empty()
 }
 
-fn one(text: &[u8]) -> Option<u32>
-    ensures { result ≡ one_number text.now }
+// The numbers of a text of so many, and of nothing else.
+fn numbers<const N: usize>(text: &[u8]) -> Option<[u32; N]>
+    ensures { result ≡ numbers_of N text.now }
 {
-    let (word, rest) = split_word(text);
-    if nothing(rest) { number(word) } else { None }
-}
-
-fn two(text: &[u8]) -> Option<(u32, u32)>
-    ensures { result ≡ two_numbers text.now }
-{
-    let (word, rest) = split_word(text);
-    match (number(word), one(rest)) {
-        (Some(a), Some(b)) => Some((a, b)),
-        _ => None,
+    let mut numbers = [0; N];
+    let mut rest = text;
+    for n in &mut numbers {
+        let (word, after) = split_word(rest);
+        *n = number(word)?;
+        rest = after;
     }
+    nothing(rest).then_some(numbers)
 }
 
-fn three(text: &[u8]) -> Option<(u32, (u32, u32))>
-    ensures { result ≡ three_numbers text.now }
-{
-    let (word, rest) = split_word(text);
-    match (number(word), two(rest)) {
-        (Some(a), Some(b)) => Some((a, b)),
-        _ => None,
-    }
-}
-
-fn one_or(default: u32, text: &[u8]) -> Option<u32>
+// A number that may be left out.
+fn number_or(default: u32, text: &[u8]) -> Option<u32>
     ensures { result ≡ number_or default text.now }
 {
     if nothing(text) {
-        Some(default)
-    } else {
-        one(text)
+        return Some(default);
     }
+    let [n] = numbers::<1>(text)?;
+    Some(n)
 }
 
 fn once(call: Call) -> Calls
@@ -66,151 +47,78 @@ fn once(call: Call) -> Calls
     Calls { call, times: 1 }
 }
 
-fn cut(numbers: Option<(u32, u32)>) -> Option<Calls>
-    ensures { result ≡ option_map cut_call numbers }
+fn slot(times: u32) -> Option<Calls>
+    ensures { result ≡ slots times }
 {
-    match numbers {
-        None => None,
-        Some((node, port)) => Some(once(Call::Cut { node, port })),
-    }
-}
-
-fn hand(number: Option<u32>) -> Option<Calls>
-    ensures { result ≡ option_map hand_call number }
-{
-    match number {
-        None => None,
-        Some(node) => Some(once(Call::Hand { node })),
-    }
-}
-
-fn slot(number: Option<u32>) -> Option<Calls>
-    ensures { result ≡ slot_calls number }
-{
-    match number {
-        Some(times) if times <= 0xFFFF => Some(Calls {
-            call: Call::Slot,
-            times: times as u16,
-        }),
-        _ => None,
-    }
-}
-
-fn post(numbers: Option<(u32, (u32, u32))>) -> Option<Calls>
-    ensures { result ≡ option_map post_call numbers }
-{
-    match numbers {
-        None => None,
-        Some((source, (destination, word))) => Some(once(Call::Post {
-            source,
-            destination,
-            word,
-        })),
-    }
-}
-
-fn step(number: Option<u32>) -> Option<Calls>
-    ensures { result ≡ option_map step_call number }
-{
-    match number {
-        None => None,
-        Some(free) => Some(once(Call::Step { free })),
-    }
+    let times = u16::try_from(times).ok()?;
+    Some(Calls {
+        call: Call::Slot,
+        times,
+    })
 }
 
 // The call of this name, with what follows the name.
+#[tactic(auto, unfolding(crate::specs::Lines::call_of))]
 fn call(name: &[u8], rest: &[u8]) -> Option<Calls>
     ensures { result ≡ call_of name.now rest.now }
 {
-    if same(name, b"cut") {
-        cut(two(rest))
-    } else if same(name, b"hand") {
-        hand(one(rest))
-    } else if same(name, b"slot") {
-        slot(one_or(1, rest))
-    } else if same(name, b"post") {
-        post(three(rest))
-    } else if same(name, b"step") {
-        step(one_or(256, rest))
+    // By ==: in the arm of a match a proof has a name only byte by byte.
+    if name == b"cut".as_slice() {
+        let [node, port] = numbers::<2>(rest)?;
+        Some(once(Call::Cut { node, port }))
+    } else if name == b"hand".as_slice() {
+        let [node] = numbers::<1>(rest)?;
+        Some(once(Call::Hand { node }))
+    } else if name == b"slot".as_slice() {
+        number_or(1, rest).and_then(slot)
+    } else if name == b"post".as_slice() {
+        let [source, destination, word] = numbers::<3>(rest)?;
+        Some(once(Call::Post {
+            source,
+            destination,
+            word,
+        }))
+    } else if name == b"step".as_slice() {
+        number_or(256, rest).map(|free| once(Call::Step { free }))
     } else {
         None
     }
-}
-
-fn mode(number: Option<u32>) -> Option<Question>
-    ensures { result ≡ option_map mode_question number }
-{
-    match number {
-        None => None,
-        Some(node) => Some(Question::Mode { node }),
-    }
-}
-
-fn entry(numbers: Option<(u32, u32)>) -> Option<Question>
-    ensures { result ≡ option_map entry_question numbers }
-{
-    match numbers {
-        None => None,
-        Some((node, destination)) => Some(Question::Entry { node, destination }),
-    }
-}
-
-fn marks(number: Option<u32>) -> Option<Question>
-    ensures { result ≡ option_map marks_question number }
-{
-    match number {
-        None => None,
-        Some(node) => Some(Question::Marks { node }),
-    }
-}
-
-fn plain(question: Question, rest: &[u8]) -> Option<Question>
-    ensures { result ≡ only_if (no_word rest.now) question }
-{
-    if nothing(rest) { Some(question) } else { None }
 }
 
 // The question of this name, with what follows the name.
+#[tactic(auto, unfolding(crate::specs::Lines::question_of))]
 fn question(name: &[u8], rest: &[u8]) -> Option<Question>
     ensures { result ≡ question_of name.now rest.now }
 {
-    if same(name, b"mode") {
-        mode(one(rest))
-    } else if same(name, b"entry") {
-        entry(two(rest))
-    } else if same(name, b"marks") {
-        marks(one(rest))
-    } else if same(name, b"hands") {
-        plain(Question::Hands, rest)
-    } else if same(name, b"calm") {
-        plain(Question::Calm, rest)
-    } else if same(name, b"flight") {
-        plain(Question::Flight, rest)
+    // By ==: in the arm of a match a proof has a name only byte by byte.
+    if name == b"mode".as_slice() {
+        let [node] = numbers::<1>(rest)?;
+        Some(Question::Mode { node })
+    } else if name == b"entry".as_slice() {
+        let [node, destination] = numbers::<2>(rest)?;
+        Some(Question::Entry { node, destination })
+    } else if name == b"marks".as_slice() {
+        let [node] = numbers::<1>(rest)?;
+        Some(Question::Marks { node })
+    } else if name == b"hands".as_slice() {
+        nothing(rest).then_some(Question::Hands)
+    } else if name == b"calm".as_slice() {
+        nothing(rest).then_some(Question::Calm)
+    } else if name == b"flight".as_slice() {
+        nothing(rest).then_some(Question::Flight)
     } else {
         None
-    }
-}
-
-fn mesh(numbers: Option<(u32, u32)>) -> Result<Line, Trouble>
-    ensures { Says (option_map mesh_meaning numbers) result }
-{
-    match numbers {
-        None => Err(Trouble::CannotRead),
-        Some((columns, rows)) => Ok(Line::Mesh { columns, rows }),
     }
 }
 
 fn cables(heap: Global, rest: &[u8]) -> Result<Line, Trouble>
-    ensures { Says (option_map cables_meaning (cables_of rest.now)) result }
+    ensures { Says (option_map cables (cables_of rest.now)) result }
 {
     let (word, after) = split_word(rest);
     if !nothing(after) {
         return Err(Trouble::CannotRead);
     }
-    match hex_bytes(heap, word) {
-        Ok(bytes) => Ok(Line::Cables(bytes)),
-        Err(trouble) => Err(trouble),
-    }
+    Ok(Line::Cables(hex_bytes(heap, word)?))
 }
 
 fn picker(rest: &[u8]) -> Option<Picker>
@@ -218,47 +126,37 @@ fn picker(rest: &[u8]) -> Option<Picker>
 {
     let (word, after) = split_word(rest);
     if !nothing(after) {
-        None
-    } else if same(word, b"lowest") {
+        return None;
+    }
+    // By ==: in the arm of a match a proof has a name only byte by byte.
+    if word == b"lowest".as_slice() {
         Some(Picker::Lowest)
-    } else if same(word, b"round") {
+    } else if word == b"round".as_slice() {
         Some(Picker::Round)
     } else {
         None
     }
 }
 
-fn chooser(picker: Option<Picker>) -> Result<Line, Trouble>
-    ensures { Says (option_map chooser_meaning picker) result }
-{
-    match picker {
-        None => Err(Trouble::CannotRead),
-        Some(picker) => Ok(Line::Chooser(picker)),
-    }
-}
-
-fn call_or_question(call: Option<Calls>, question: Option<Question>) -> Result<Line, Trouble>
-    ensures { Says (first_of (option_map make call) (option_map ask question)) result }
-{
-    match (call, question) {
-        (Some(calls), _) => Ok(Line::Make(calls)),
-        (None, Some(question)) => Ok(Line::Ask(question)),
-        (None, None) => Err(Trouble::CannotRead),
-    }
-}
-
 // The line of this name, with what follows the name.
+#[tactic(auto, unfolding(crate::specs::Lines::named_meaning))]
 fn named(heap: Global, name: &[u8], rest: &[u8]) -> Result<Line, Trouble>
     ensures { Says (named_meaning name.now rest.now) result }
 {
-    if same(name, b"mesh") {
-        mesh(two(rest))
-    } else if same(name, b"cables") {
+    // By ==: in the arm of a match a proof has a name only byte by byte.
+    if name == b"mesh".as_slice() {
+        let [columns, rows] = numbers::<2>(rest).ok_or(Trouble::CannotRead)?;
+        Ok(Line::Mesh { columns, rows })
+    } else if name == b"cables".as_slice() {
         cables(heap, rest)
-    } else if same(name, b"chooser") {
-        chooser(picker(rest))
+    } else if name == b"chooser".as_slice() {
+        let picker = picker(rest).ok_or(Trouble::CannotRead)?;
+        Ok(Line::Chooser(picker))
+    } else if let Some(calls) = call(name, rest) {
+        Ok(Line::Make(calls))
     } else {
-        call_or_question(call(name, rest), question(name, rest))
+        let question = question(name, rest).ok_or(Trouble::CannotRead)?;
+        Ok(Line::Ask(question))
     }
 }
 

@@ -1,7 +1,7 @@
 //! Broken cables and broken nodes.
 use crate::field::Field;
 use crate::graph::has_circle;
-use crate::sums::{NONE, Sums, percent, ratio};
+use crate::sums::{Sums, percent, ratio};
 use crate::walls::Walls;
 use sample::Random;
 use std::io;
@@ -25,12 +25,12 @@ pub(crate) fn print_control(
 
 // So many random cuts, in so many patterns.
 fn cables(walls: &Walls, random: &mut Random, cuts: u8, patterns: u32) -> Sums {
-    let mut sums = NONE;
+    let mut sums = Sums::default();
     for _ in 0..patterns {
         let mut field = Field::power_up(&walls.next(random));
         let mut effort = field.settle();
         if cuts > 0 {
-            field.idle(random.below(64));
+            field.idle(random.below(64u8));
             field.cut_random(random, cuts);
             effort = field.settle();
         }
@@ -55,6 +55,7 @@ fn print_row(rt: &HostRuntime, cuts: u8, s: &Sums) -> io::Result<()> {
 }
 
 /// Prints the table of random cuts.
+// Runtime, walls and numbers are each handed on as they are; a struct would only be taken apart.
 pub(crate) fn print_cables(
     rt: &HostRuntime,
     walls: &Walls,
@@ -66,9 +67,9 @@ pub(crate) fn print_cables(
     println!(rt;
         "cuts | joined % | with entry % | unequal | circles | mean count | mean way | slots | cycles | most cycles"
     )?;
-    for tens in 0..11u8 {
-        let sums = cables(walls, random, 10 * tens, patterns);
-        print_row(rt, 10 * tens, &sums)?;
+    for cuts in (0..=100u8).step_by(10) {
+        let sums = cables(walls, random, cuts, patterns);
+        print_row(rt, cuts, &sums)?;
     }
     Ok(())
 }
@@ -77,7 +78,7 @@ pub(crate) fn print_cables(
 fn break_nodes(walls: &Walls, random: &mut Random, gone: &[u8], sums: &mut Sums) {
     let mut field = Field::power_up(&walls.next(random));
     let _ = field.settle();
-    field.idle(random.below(64));
+    field.idle(random.below(64u8));
     for node in gone {
         field.cut_node(*node);
     }
@@ -85,8 +86,9 @@ fn break_nodes(walls: &Walls, random: &mut Random, gone: &[u8], sums: &mut Sums)
     sums.add(&mut field, gone, effort);
 }
 
+// Every node. Nodes and pairs stand in slices of other lengths, so that one loop for both would not be plainer.
 fn one_node(walls: &Walls, random: &mut Random) -> Sums {
-    let mut sums = NONE;
+    let mut sums = Sums::default();
     for node in 0..64u8 {
         break_nodes(walls, random, &[node], &mut sums);
     }
@@ -94,13 +96,12 @@ fn one_node(walls: &Walls, random: &mut Random) -> Sums {
 }
 
 // Every pair of nodes whose place in their order is a multiple of the stride.
+// A count: a step over pairs made by flat_map is no plainer.
 fn two_nodes(walls: &Walls, random: &mut Random, stride: u32) -> Sums {
-    let mut sums = NONE;
+    let mut sums = Sums::default();
     let mut left = 0u32;
-    for place in 0..4096u16 {
-        let first = (place / 64) as u8;
-        let second = (place % 64) as u8;
-        if first < second {
+    for first in 0..64u8 {
+        for second in first + 1..64 {
             if left == 0 {
                 break_nodes(walls, random, &[first, second], &mut sums);
                 left = stride;
@@ -120,15 +121,15 @@ fn past(drawn: u8, gone: u8) -> u8 {
     }
 }
 
-// So many random triples.
+// So many random triples. Each is drawn only when the one before is broken: so the loop is its own.
 fn three_nodes(walls: &Walls, random: &mut Random, patterns: u32) -> Sums {
-    let mut sums = NONE;
+    let mut sums = Sums::default();
     for _ in 0..patterns {
-        let first = random.below(64);
-        let second = past(random.below(63), first);
+        let first = random.below(64u8);
+        let second = past(random.below(63u8), first);
         let low = first.min(second);
         let high = first.max(second);
-        let third = past(past(random.below(62), low), high);
+        let third = past(past(random.below(62u8), low), high);
         break_nodes(walls, random, &[low, high, third], &mut sums);
     }
     sums
@@ -148,6 +149,7 @@ fn print_nodes_row(rt: &HostRuntime, nodes: u8, s: &Sums) -> io::Result<()> {
 }
 
 /// Prints the table of broken nodes: every one, every pair (or one in so many), and random triples.
+// Runtime, walls and numbers are each handed on as they are; a struct would only be taken apart.
 pub(crate) fn print_nodes(
     rt: &HostRuntime,
     walls: &Walls,
@@ -160,7 +162,7 @@ pub(crate) fn print_nodes(
         "nodes | patterns | whole % | joined % | with entry % | unequal | circles | cycles"
     )?;
     print_nodes_row(rt, 1, &one_node(walls, random))?;
-    let stride = if patterns == 0 { 1000 } else { 1000 / patterns };
+    let stride = 1000u32.checked_div(patterns).unwrap_or(1000);
     print_nodes_row(rt, 2, &two_nodes(walls, random, stride.max(1)))?;
     print_nodes_row(rt, 3, &three_nodes(walls, random, patterns))
 }

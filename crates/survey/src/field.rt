@@ -2,90 +2,79 @@
 use chooser::LowestPort;
 use rules::Mark;
 use sample::Random;
+use std::num::Saturating;
 use wall::Wall;
 use wiring::{CableList, Wiring};
 
 /// More slots than any recovery takes.
 const MOST_SLOTS: u16 = 256;
 
-/// Where the cable of each port leads (node 255: nowhere), whether it is live, and how the port is
-/// marked, at 4 * node + port.
+/// Where the live cable of a port leads, and how the port is marked.
 #[derive(Clone, Copy)]
 pub struct Port {
-    pub far: u8,
-    pub far_port: u8,
-    pub live: bool,
+    pub far: Option<(u8, u8)>,
     pub mark: Mark,
 }
 
+/// The ports of each node.
+pub type Ports = [[Port; 4]; 64];
+
 /// A port with no cable.
-pub const NO_PORT: Port = Port {
-    far: 255,
-    far_port: 0,
-    live: false,
+const NO_PORT: Port = Port {
+    far: None,
     mark: Mark::Unmarked,
 };
 
 /// What a recovery took: slots until the wall was calm, and cycles that reached a node.
-#[derive(Clone, Copy)]
+#[derive(Clone, Copy, Default)]
 pub struct Effort {
-    pub slots: u64,
-    pub cycles: u64,
+    pub slots: Saturating<u64>,
+    pub cycles: Saturating<u64>,
 }
 
 /// A wall and the cables that its survey has not cut.
 #[derive(Drop)]
 pub struct Field {
     pub wall: Wall<CableList, LowestPort>,
-    pub ports: [Port; 256],
+    pub ports: Ports,
 }
 
-/// A port by its place; past the last one it leads nowhere.
-pub(crate) fn port_at(ports: &[Port], place: usize) -> Port {
-    if place < ports.len() {
-        ports[place]
-    } else {
-        NO_PORT
+// Asks a wiring for the cables of a node.
+fn ask(list: &CableList, node: u8, ports: &mut [Port; 4]) {
+    for (port, place) in (0..4u8).zip(ports.iter_mut()) {
+        place.far = list.far_end(node, port);
     }
 }
 
-// Asks a wiring for all its cables.
-fn ask_all(list: &CableList, ports: &mut [Port]) {
-    for place in 0..ports.len() {
-        if place < 256 {
-            if let Some((far, far_port)) = list.far_end((place / 4) as u8, (place % 4) as u8) {
-                ports[place] = Port {
-                    far,
-                    far_port,
-                    live: true,
-                    mark: Mark::Unmarked,
-                };
-            }
-        }
+// Asks a wiring for all its cables, in place: of the node that a from_fn closure gets no bound is known.
+fn ask_all(list: &CableList, ports: &mut Ports) {
+    for (node, of_node) in (0..64u8).zip(ports.iter_mut()) {
+        ask(list, node, of_node);
     }
 }
 
-fn kill(ports: &mut [Port], place: usize) {
-    if place < ports.len() {
-        ports[place].live = false;
-    }
+// Takes the cable from a port, and says where it led.
+fn take(ports: &mut Ports, (node, port): (u8, u8)) -> Option<(u8, u8)> {
+    ports
+        .get_mut(usize::from(node))?
+        .get_mut(usize::from(port))?
+        .far
+        .take()
 }
 
 // Notes a node's marks.
-fn note_marks(ports: &mut [Port], node: u8, marks: [Mark; 4]) {
-    let at = 4 * node as usize;
-    if at + 3 < ports.len() {
-        ports[at].mark = marks[0];
-        ports[at + 1].mark = marks[1];
-        ports[at + 2].mark = marks[2];
-        ports[at + 3].mark = marks[3];
+fn note_marks(ports: &mut Ports, node: u8, marks: [Mark; 4]) {
+    if let Some(ports) = ports.get_mut(usize::from(node)) {
+        for (port, mark) in ports.iter_mut().zip(marks) {
+            port.mark = mark;
+        }
     }
 }
 
 impl Field {
     /// The wall at power-up.
     pub(crate) fn power_up(list: &CableList) -> Field {
-        let mut ports = [NO_PORT; 256];
+        let mut ports = [[NO_PORT; 4]; 64];
         ask_all(list, &mut ports);
         Field {
             wall: Wall::power_up(*list, LowestPort::new()),
@@ -95,17 +84,14 @@ impl Field {
 
     /// Runs slots until the wall is calm, and says what it took.
     pub(crate) fn settle(&mut self) -> Effort {
-        let mut effort = Effort {
-            slots: 0,
-            cycles: 0,
-        };
+        let mut effort = Effort::default();
         for _ in 0..MOST_SLOTS {
             if self.wall.calm() {
                 break;
             }
             let answer = self.wall.slot();
-            effort.slots = effort.slots.saturating_add(1);
-            effort.cycles = effort.cycles.saturating_add(u64::from(answer.cycles));
+            effort.slots += 1;
+            effort.cycles += u64::from(answer.cycles);
         }
         effort
     }
@@ -122,11 +108,10 @@ impl Field {
         if self.wall.cut(node, port).is_err() {
             return false;
         }
-        let place = 4 * node as usize + port as usize;
         let ports = &mut self.ports;
-        let held = port_at(ports, place);
-        kill(ports, place);
-        kill(ports, 4 * held.far as usize + held.far_port as usize);
+        if let Some(far) = take(ports, (node, port)) {
+            let _ = take(ports, far);
+        }
         true
     }
 
@@ -138,7 +123,7 @@ impl Field {
             if left == 0 {
                 break;
             }
-            if self.cut(random.below(nodes), random.below(4)) {
+            if self.cut(random.below(nodes), random.below(4u8)) {
                 left -= 1;
             }
         }

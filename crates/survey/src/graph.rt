@@ -1,125 +1,111 @@
 //! What the survey finds out for itself, from the cables that it has not cut: the shortest ways, and
 //! circles over permitted turns.
-use crate::field::{Port, port_at};
+use crate::field::{Port, Ports};
 use rules::Mark;
 
-/// No way.
-pub const FAR: u8 = 255;
+/// For each node the number of cables on a shortest way to it, if there is one.
+pub type Distances = [Option<u8>; 64];
 
-fn far_at(far: &[u8], node: u8) -> u8 {
-    if (node as usize) < far.len() {
-        far[node as usize]
-    } else {
-        FAR
+// The distance of a node.
+fn distance_of(distances: &Distances, node: u8) -> Option<u8> {
+    distances.get(usize::from(node)).copied().flatten()
+}
+
+// Notes the distance of a node that has none yet. Whether it had none.
+fn reach(distances: &mut Distances, node: u8, distance: u8) -> bool {
+    match distances.get_mut(usize::from(node)) {
+        Some(place) if place.is_none() => {
+            *place = Some(distance);
+            true
+        }
+        _ => false,
     }
 }
 
-fn set_far(far: &mut [u8], node: u8, distance: u8) {
-    if (node as usize) < far.len() {
-        far[node as usize] = distance;
-    }
-}
-
-// One level more: the nodes next to those of this distance. Whether a new one was met.
-fn spread(ports: &[Port], far: &mut [u8], distance: u8) -> bool {
+// The nodes next to one. Whether a new one was met.
+fn spread_from(ports: &[Port; 4], distances: &mut Distances, distance: u8) -> bool {
     let mut any = false;
-    for place in 0..256usize {
-        let port = port_at(ports, place);
-        if port.live && far_at(far, (place / 4) as u8) == distance && far_at(far, port.far) == FAR {
-            set_far(far, port.far, distance.saturating_add(1));
-            any = true;
+    for port in ports {
+        if let Some((node, _)) = port.far {
+            any |= reach(distances, node, distance.saturating_add(1));
         }
     }
     any
 }
 
-// Level after level, until no new node is met.
-fn spread_all(ports: &[Port], far: &mut [u8]) {
+// One level more: the nodes next to those of this distance. Whether a new one was met.
+fn spread(ports: &Ports, distances: &mut Distances, distance: u8) -> bool {
+    let mut any = false;
+    for (node, ports) in (0..64u8).zip(ports) {
+        if distance_of(distances, node) == Some(distance) {
+            any |= spread_from(ports, distances, distance);
+        }
+    }
+    any
+}
+
+/// The number of live cables from a node to each other one.
+pub(crate) fn distances(ports: &Ports, from: u8) -> Distances {
+    let mut distances = [None; 64];
+    let _ = reach(&mut distances, from, 0);
+    // Level after level, until no new node is met.
     for distance in 0..64u8 {
-        if !spread(ports, far, distance) {
+        if !spread(ports, &mut distances, distance) {
             break;
         }
     }
-}
-
-/// The number of live cables from a node to each other one; `FAR` where there is no way.
-pub(crate) fn distances(ports: &[Port], from: u8) -> [u8; 64] {
-    let mut far = [FAR; 64];
-    set_far(&mut far, from, 0);
-    spread_all(ports, &mut far);
-    far
+    distances
 }
 
 // Whether a packet that came in at a port may leave by another: both are marked, not both up.
 fn is_permitted(came: Mark, goes: Mark) -> bool {
-    (came != Mark::Unmarked) & (goes != Mark::Unmarked) & ((came != Mark::Up) | (goes != Mark::Up))
+    came.is_marked() & goes.is_marked() & !(came.is_up() & goes.is_up())
 }
 
-fn is_on(on: &[bool], place: usize) -> bool {
-    (place < on.len()) && on[place]
-}
+/// For each port whether the crossing out of it is still on.
+type Crossings = [[bool; 4]; 64];
 
-fn set_on(on: &mut [bool], place: usize, value: bool) {
-    if place < on.len() {
-        on[place] = value;
-    }
-}
-
-// Whether the crossing out of a place has a crossing after it that is still on.
-fn goes_on(ports: &[Port], on: &[bool], place: usize) -> bool {
-    let port = port_at(ports, place);
-    let came = port_at(ports, 4 * port.far as usize + port.far_port as usize);
-    for q in 0..4u8 {
-        let next = 4 * port.far as usize + q as usize;
-        if is_on(on, next) && is_permitted(came.mark, port_at(ports, next).mark) {
-            return true;
-        }
-    }
-    false
+// Whether a crossing out of this port has a crossing after it that is still on.
+fn goes_on(ports: &Ports, on: &Crossings, port: &Port) -> bool {
+    let Some((node, at)) = port.far else {
+        return false;
+    };
+    let (Some(ports), Some(on)) = (ports.get(usize::from(node)), on.get(usize::from(node))) else {
+        return false;
+    };
+    let Some(came) = ports.get(usize::from(at)) else {
+        return false;
+    };
+    ports
+        .iter()
+        .zip(on)
+        .any(|(goes, on)| *on && is_permitted(came.mark, goes.mark))
 }
 
 // Takes off the crossings that none follows. Whether there was one.
-fn peel(ports: &[Port], on: &mut [bool]) -> bool {
+fn peel(ports: &Ports, on: &mut Crossings) -> bool {
     let mut any = false;
-    for place in 0..256usize {
-        if is_on(on, place) && !goes_on(ports, on, place) {
-            set_on(on, place, false);
-            any = true;
+    // By place: all crossings are read while one is taken off.
+    for (node, of_node) in ports.iter().enumerate() {
+        for (at, port) in of_node.iter().enumerate() {
+            if on[node][at] && !goes_on(ports, on, port) {
+                on[node][at] = false;
+                any = true;
+            }
         }
     }
     any
-}
-
-// Takes off crossings until each that stays has another after it.
-fn peel_all(ports: &[Port], on: &mut [bool]) {
-    for _ in 0..257u16 {
-        if !peel(ports, on) {
-            break;
-        }
-    }
-}
-
-fn start(ports: &[Port], on: &mut [bool]) {
-    for place in 0..256usize {
-        set_on(on, place, port_at(ports, place).live);
-    }
-}
-
-fn any_on(on: &[bool]) -> bool {
-    for place in 0..256usize {
-        if is_on(on, place) {
-            return true;
-        }
-    }
-    false
 }
 
 /// Whether there is a circle: crossings over live cables, each turn into the next and from the last
 /// into the first permitted. Crossings that no other can follow are taken off, again and again; what
 /// then stays goes on for ever, so it has a circle.
-pub(crate) fn has_circle(ports: &[Port]) -> bool {
-    let mut on = [false; 256];
-    start(ports, &mut on);
-    peel_all(ports, &mut on);
-    any_on(&on)
+pub(crate) fn has_circle(ports: &Ports) -> bool {
+    let mut on = ports.map(|ports| ports.map(|port| port.far.is_some()));
+    for _ in 0..257u16 {
+        if !peel(ports, &mut on) {
+            break;
+        }
+    }
+    on.iter().any(|on| on.contains(&true))
 }

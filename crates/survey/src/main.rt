@@ -10,20 +10,12 @@ mod sums;
 mod walls;
 
 use crate::walls::Walls;
-use anyhow::anyhow;
+use anyhow::Context;
 use sample::Random;
 use std::env;
 
 /// The seed of all random walls and cuts.
 const SEED: u64 = 1_118;
-
-// The number of patterns: the first argument.
-fn patterns_asked(rt: &HostRuntime) -> anyhow::Result<u32> {
-    match env::args(rt)?.nth(1) {
-        Some(word) => Ok(word.as_str().parse::<u32>()?),
-        None => Err(anyhow!("how many patterns?")),
-    }
-}
 
 fn survey(
     rt: &HostRuntime,
@@ -43,9 +35,10 @@ fn survey(
 }
 
 fn run(rt: &HostRuntime) -> anyhow::Result<()> {
-    let patterns = patterns_asked(rt)?;
+    let argument = env::args(rt)?.nth(1).context("how many patterns?")?;
+    let patterns = argument.as_str().parse::<u32>()?;
     let mut random = Random::new(SEED);
-    survey(rt, &Walls::mesh(), &mut random, patterns)?;
+    survey(rt, &Walls::mesh()?, &mut random, patterns)?;
     survey(rt, &Walls::Lists, &mut random, patterns)
 }
 

@@ -5,6 +5,7 @@ use crate::walls::Walls;
 use rules::{Ending, Outcome};
 use sample::Random;
 use std::io;
+use std::num::Saturating;
 use tray::Tray;
 
 const NOTHING: Outcome = Outcome {
@@ -27,43 +28,32 @@ const POSTS: u8 = 8;
 const MOST_STEPS: u16 = 2048;
 
 /// What became of the packets of some runs.
-#[derive(Clone, Copy)]
+#[derive(Clone, Copy, Default)]
 struct Fates {
-    runs: u64,
-    posted: u64,
-    delivered: u64,
-    returned: u64,
+    runs: Saturating<u64>,
+    posted: Saturating<u64>,
+    delivered: Saturating<u64>,
+    returned: Saturating<u64>,
     /// Delivered packets that were not at the destination that their word names.
-    astray: u64,
+    astray: Saturating<u64>,
     /// Packets still in flight at the end.
-    left: u64,
+    left: Saturating<u64>,
     /// Runs in which delivered and returned packets do not add up to those posted.
-    unequal: u64,
+    unequal: Saturating<u64>,
     /// Steps from the calm on until no packet was in flight.
-    steps: u64,
+    steps: Saturating<u64>,
 }
-
-const NONE: Fates = Fates {
-    runs: 0,
-    posted: 0,
-    delivered: 0,
-    returned: 0,
-    astray: 0,
-    left: 0,
-    unequal: 0,
-    steps: 0,
-};
 
 impl Fates {
     fn outcome(&mut self, outcome: Outcome) {
         match outcome.ending {
             Ending::Delivered => {
-                self.delivered = self.delivered.saturating_add(1);
+                self.delivered += 1;
                 if u32::from(outcome.node) != outcome.word {
-                    self.astray = self.astray.saturating_add(1);
+                    self.astray += 1;
                 }
             }
-            Ending::Returned => self.returned = self.returned.saturating_add(1),
+            Ending::Returned => self.returned += 1,
         }
     }
 
@@ -79,14 +69,14 @@ impl Fates {
     // Posts packets between random nodes; each has its destination as its word.
     fn post(&mut self, field: &mut Field, random: &mut Random, times: u8) {
         for _ in 0..times {
-            let source = random.below(64);
-            let destination = random.below(64);
+            let source = random.below(64u8);
+            let destination = random.below(64u8);
             if field
                 .wall
                 .post(source, destination, u32::from(destination))
                 .is_ok()
             {
-                self.posted = self.posted.saturating_add(1);
+                self.posted += 1;
             }
         }
     }
@@ -97,10 +87,10 @@ impl Fates {
         self.post(field, random, FIRST_POSTS);
         for _ in 0..ROUNDS {
             self.post(field, random, POSTS);
-            let now = left.min(random.below(4));
+            let now = left.min(random.below(4u8));
             field.cut_random(random, now);
             left = left.saturating_sub(now);
-            for _ in 0..random.below(16) {
+            for _ in 0..random.below(16u8) {
                 let _ = field.wall.slot();
                 self.step(field);
             }
@@ -116,26 +106,25 @@ impl Fates {
                 break;
             }
             self.step(field);
-            self.steps = self.steps.saturating_add(1);
+            self.steps += 1;
         }
-        self.left = self.left.saturating_add(field.wall.in_flight() as u64);
+        self.left += field.wall.in_flight() as u64;
+    }
+
+    // Packets that were posted, and neither delivered nor returned.
+    fn unaccounted(&self) -> Saturating<u64> {
+        self.posted - (self.delivered + self.returned)
     }
 
     fn run(&mut self, walls: &Walls, random: &mut Random, cuts: u8) {
-        let before = self
-            .posted
-            .saturating_sub(self.delivered.saturating_add(self.returned));
+        let before = self.unaccounted();
         let mut field = Field::power_up(&walls.next(random));
         let _ = field.settle();
         self.disturb(&mut field, random, cuts);
         self.finish(&mut field);
-        self.runs = self.runs.saturating_add(1);
-        if self
-            .posted
-            .saturating_sub(self.delivered.saturating_add(self.returned))
-            != before
-        {
-            self.unequal = self.unequal.saturating_add(1);
+        self.runs += 1;
+        if self.unaccounted() != before {
+            self.unequal += 1;
         }
     }
 }
@@ -156,6 +145,7 @@ fn print_row(rt: &HostRuntime, cuts: u8, fates: &Fates) -> io::Result<()> {
 }
 
 /// Prints the table of packets in flight while cables break.
+// Runtime, walls and numbers are each handed on as they are; a struct would only be taken apart.
 pub(crate) fn print_packets(
     rt: &HostRuntime,
     walls: &Walls,
@@ -168,7 +158,7 @@ pub(crate) fn print_packets(
         "cuts | runs | posted | delivered | returned | delivered % | left | unequal | astray | steps"
     )?;
     for cuts in [1u8, 10, 20, 40, 60] {
-        let mut fates = NONE;
+        let mut fates = Fates::default();
         for _ in 0..runs {
             fates.run(walls, random, cuts);
         }

@@ -1,8 +1,9 @@
 //! The walls of the survey: 64 nodes and 112 cables, as a mesh or at random.
+use anyhow::anyhow;
 use sample::{Partner, Plan, Random, WallFile};
 use wiring::{CableList, Mesh};
 
-/// Where the patterns of a table come from.
+/// Where the patterns of a table come from: two sources, neither the lack of the other.
 #[derive(Clone, Copy)]
 pub enum Walls {
     /// One wall for all.
@@ -20,17 +21,16 @@ const LISTS: Plan = Plan {
 
 fn read(file: &WallFile) -> CableList {
     let mut list = CableList::new();
+    // What sample makes is a good file.
     let _ = list.read(file.as_slice());
     list
 }
 
 impl Walls {
     /// The mesh of eight columns and eight rows.
-    pub(crate) fn mesh() -> Walls {
-        match Mesh::new(8, 8) {
-            Ok(mesh) => Walls::Mesh(read(&WallFile::of(&mesh))),
-            Err(_) => Walls::Lists,
-        }
+    pub(crate) fn mesh() -> anyhow::Result<Walls> {
+        let mesh = Mesh::new(8, 8).map_err(|_| anyhow!("a mesh was refused"))?;
+        Ok(Walls::Mesh(read(&WallFile::of(&mesh))))
     }
 
     /// The wall of the next pattern.

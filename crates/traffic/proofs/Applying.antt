@@ -1,5 +1,5 @@
 -- A packet's fate put into effect, on a step in the middle.
-use Rattle.std.proofs.Common.{◌≡◌, ℕ, ◌+◌, ◌≤◌, List, [], ◌∷◌, ◌++◌, length, sym, ap, ◌∙◌, subst, arith}
+use Rattle.std.proofs.Common.{◌≡◌, ℕ, ◌+◌, ◌≤◌, List, [], ◌∷◌, ◌++◌, length, take, refl, sym, ap, ◌∙◌, subst, arith}
 use Rattle.std.proofs.lemmas.List.{append_assoc}
 use Rattle.tray.specs.declared.types.Tray.{Tray}
 use Rattle.tray.specs.Filled.{rest, Puts}
@@ -14,75 +14,95 @@ use Rattle.traffic.specs.declared.types.Occupancy.{Occupancy}
 use Rattle.traffic.specs.declared.types.Fate.{Fate}
 use Rattle.traffic.specs.declared.types.Fate.TheVariants.{Waits, Delivered, Returned, Crosses}
 use Rattle.traffic.specs.declared.types.Flight.{Flight}
-use Rattle.traffic.specs.declared.types.Progress.{Progress}
+use Rattle.traffic.specs.declared.types.Sweep.{Sweep}
 use Rattle.traffic.specs.Occupied.{Counts, Arrives}
-use Rattle.traffic.specs.Sweeping.{tallied, one_more, staying, Applies}
-
-one_tallied : (fate : Fate) (c : StepCounts) → tallied (one_more fate c) ≡ tallied c + 1
-one_tallied Waits c = omega arith
-one_tallied Delivered c = omega arith
-one_tallied Returned c = omega arith
-one_tallied (Crosses m q) c = omega arith
-
-pub tallied_one : (fate : Fate) (c d : StepCounts) → d ≡ one_more fate c → tallied d ≡ tallied c + 1
-tallied_one fate c d e = ap tallied e ∙ one_tallied fate c
+use Rattle.traffic.specs.Sweeping.{staying, BehindStays, Applies, OccupancyFollows}
 
 abbrev outcome : Packet → Ending → Outcome
 outcome x ending = record { number = x.number; ending = ending; node = x.node; word = x.word }
 
-module _ (fate : Fate) (x : Packet) (flight : Flight) (progress : Progress) (held : Tray Outcome)
-    (flight' : Flight) (progress' : Progress) (counts : progress'.counts ≡ one_more fate progress.counts) where
+-- The counts with one packet more.
+abbrev more_moved : StepCounts → StepCounts
+more_moved c = record c { moved = c.moved + 1 }
+
+abbrev more_delivered : StepCounts → StepCounts
+more_delivered c = record c { delivered = c.delivered + 1 }
+
+abbrev more_returned : StepCounts → StepCounts
+more_returned c = record c { returned = c.returned + 1 }
+
+abbrev more_waited : StepCounts → StepCounts
+more_waited c = record c { waited = c.waited + 1 }
+
+module _ (fate : Fate) (x : Packet) (flight : Flight) (sweep : Sweep) (held : Tray Outcome) (flight' : Flight) (sweep' : Sweep) where
   -- What a fate does to a step in the middle, it does under its own name.
   named : (known : Fate) (held' : Tray Outcome) → fate ≡ known →
-      Applies known x flight progress held flight' progress' held' → Applies fate x flight progress held flight' progress' held'
-  named known held' e = subst (λ (f : Fate). Applies f x flight progress held flight' progress' held') (sym e)
+      Applies known x flight sweep held flight' sweep' held' → Applies fate x flight sweep held flight' sweep' held'
+  named known held' e = subst (λ (f : Fate). Applies f x flight sweep held flight' sweep' held') (sym e)
 
-  counts_under : (known : Fate) (c : StepCounts) → fate ≡ known → c ≡ progress.counts → one_more known c ≡ progress'.counts
-  counts_under known c e same =
-      ap (one_more known) same ∙ ap (λ (f : Fate). one_more f progress.counts) (sym e) ∙ sym counts
-
-  pub waits_applied : fate ≡ Waits → staying flight' progress' ≡ staying flight progress ++ x ∷ [] →
-      Applies fate x flight progress held flight' progress' held
+  pub waits_applied : fate ≡ Waits → sweep'.counts ≡ more_waited sweep.counts →
+      staying flight' sweep' ≡ staying flight sweep ++ x ∷ [] → Applies fate x flight sweep held flight' sweep' held
   unfolding apply
-  waits_applied e stays = named Waits held e (λ first mid ask shows. record {
-    flying_are = ap (λ (xs : List Packet). xs ++ x ∷ []) shows.flying_are ∙ sym stays;
-    counts_are = counts_under Waits mid.counts e shows.counts_are;
-    puts = shows.puts;
+  waits_applied e counts stays = named Waits held e (record {
+    shows = λ first mid ask shows. record {
+      flying_are = ap (λ (xs : List Packet). xs ++ x ∷ []) shows.flying_are ∙ sym stays;
+      counts_are = ap more_waited shows.counts_are ∙ sym counts;
+      puts = shows.puts;
+    };
   })
 
-  pub crosses_applied : (m q : ℕ) (y : Packet) → fate ≡ Crosses m q → y ≡ moved_to m q x →
-      staying flight' progress' ≡ staying flight progress ++ y ∷ [] → Applies fate x flight progress held flight' progress' held
+  pub crosses_applied : (m q : ℕ) → fate ≡ Crosses m q → sweep'.counts ≡ more_moved sweep.counts →
+      staying flight' sweep' ≡ staying flight sweep ++ moved_to m q x ∷ [] → Applies fate x flight sweep held flight' sweep' held
   unfolding apply
-  crosses_applied m q y e is stays = named (Crosses m q) held e (λ first mid ask shows. record {
-    flying_are = ap (λ (xs : List Packet). xs ++ moved_to m q x ∷ []) shows.flying_are
-        ∙ ap (λ (z : Packet). staying flight progress ++ z ∷ []) (sym is) ∙ sym stays;
-    counts_are = counts_under (Crosses m q) mid.counts e shows.counts_are;
-    puts = shows.puts;
+  crosses_applied m q e counts stays = named (Crosses m q) held e (record {
+    shows = λ first mid ask shows. record {
+      flying_are = ap (λ (xs : List Packet). xs ++ moved_to m q x ∷ []) shows.flying_are ∙ sym stays;
+      counts_are = ap more_moved shows.counts_are ∙ sym counts;
+      puts = shows.puts;
+    };
   })
 
-  module _ (held' : Tray Outcome) (same : staying flight' progress' ≡ staying flight progress) where
-    pub delivered_applied : fate ≡ Delivered → Puts (outcome x ending.Delivered ∷ []) held held' →
-        Applies fate x flight progress held flight' progress' held'
+  module _ (held' : Tray Outcome) (same : staying flight' sweep' ≡ staying flight sweep) where
+    pub delivered_applied : fate ≡ Delivered → sweep'.counts ≡ more_delivered sweep.counts →
+        Puts (outcome x ending.Delivered ∷ []) held held' → Applies fate x flight sweep held flight' sweep' held'
     unfolding apply
-    delivered_applied e put = named Delivered held' e (λ first mid ask shows. record {
-      flying_are = shows.flying_are ∙ sym same;
-      counts_are = counts_under Delivered mid.counts e shows.counts_are;
-      puts = puts_more shows.puts put;
+    delivered_applied e counts put = named Delivered held' e (record {
+      shows = λ first mid ask shows. record {
+        flying_are = shows.flying_are ∙ sym same;
+        counts_are = ap more_delivered shows.counts_are ∙ sym counts;
+        puts = puts_more shows.puts put;
+      };
     })
 
-    pub returned_applied : fate ≡ Returned → Puts (outcome x ending.Returned ∷ []) held held' →
-        Applies fate x flight progress held flight' progress' held'
+    pub returned_applied : fate ≡ Returned → sweep'.counts ≡ more_returned sweep.counts →
+        Puts (outcome x ending.Returned ∷ []) held held' → Applies fate x flight sweep held flight' sweep' held'
     unfolding apply
-    returned_applied e put = named Returned held' e (λ first mid ask shows. record {
-      flying_are = shows.flying_are ∙ sym same;
-      counts_are = counts_under Returned mid.counts e shows.counts_are;
-      puts = puts_more shows.puts put;
+    returned_applied e counts put = named Returned held' e (record {
+      shows = λ first mid ask shows. record {
+        flying_are = shows.flying_are ∙ sym same;
+        counts_are = ap more_returned shows.counts_are ∙ sym counts;
+        puts = puts_more shows.puts put;
+      };
     })
 
 pub one_put : (o : Outcome) (held held' : Tray Outcome) → 1 ≤ length (rest held) → Puts (o ∷ []) held held' → length (rest held) ≤ length (rest held') + 1
 one_put o held held' h put = omega (arith, free_after put)
 
-pub occupancy_kept : (occupancy occupancy' : Occupancy) (stay stay' : List Packet) (x : Packet) → Arrives occupancy x occupancy' → stay' ≡ stay ++ x ∷ [] →
-    (others : List Packet) → Counts occupancy (stay ++ others) → Counts occupancy' (stay' ++ others)
-occupancy_kept occupancy occupancy' stay stay' x arrives e others counts =
-    subst (Counts occupancy') (sym (ap (λ (xs : List Packet). xs ++ others) e ∙ append_assoc stay (x ∷ []) others)) (arrives stay others counts)
+pub occupancy_kept : (flight : Flight) (sweep : Sweep) (flight' : Flight) (sweep' : Sweep) (x : Packet) → Arrives sweep.occupancy x sweep'.occupancy →
+    staying flight' sweep' ≡ staying flight sweep ++ x ∷ [] → OccupancyFollows flight sweep flight' sweep'
+occupancy_kept flight sweep flight' sweep' x arrives e = record {
+  counts_on = λ others counts.
+      subst (Counts sweep'.occupancy) (sym (ap (λ (xs : List Packet). xs ++ others) e ∙ append_assoc (staying flight sweep) (x ∷ []) others))
+      (arrives (staying flight sweep) others counts);
+}
+
+pub behind_none : (flight : Flight) (stayed : ℕ) → BehindStays stayed flight flight
+behind_none flight stayed = record { places_stay = refl; count_stays = refl; last_stays = refl }
+
+pub occupancy_same : (flight : Flight) (sweep sweep' : Sweep) → sweep'.occupancy ≡ sweep.occupancy → sweep'.stayed ≡ sweep.stayed →
+    OccupancyFollows flight sweep flight sweep'
+occupancy_same flight sweep sweep' o s = record {
+  counts_on = λ others counts.
+      subst (λ (n : ℕ). Counts sweep'.occupancy (take n flight.places ++ others)) (sym s)
+      (subst (λ (occupancy : Occupancy). Counts occupancy (staying flight sweep ++ others)) (sym o) counts);
+}

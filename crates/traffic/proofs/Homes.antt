@@ -1,37 +1,18 @@
 -- Packets that go home, place by place.
-use Rattle.std.proofs.Common.{◌≡◌, ℕ, zero, suc, ◌+◌, ◌<◌, Bool, true, false, cond, leb, List, [], ◌∷◌, ◌++◌, map, length, get_or, take, drop, set, sym, refl, ap, ◌∙◌, arith, lit<}
+use Rattle.std.proofs.Common.{◌≡◌, ℕ, ◌+◌, ◌<◌, Bool, true, false, cond, List, [], ◌∷◌, ◌++◌, map, length, get_or, take, drop, set, sym, refl, ap, ◌∙◌, arith}
 use Rattle.std.proofs.lemmas.List.{take_more_set, map_more, drop-set-lt, drop_more, length-set}
-use Rattle.std.proofs.lemmas.Bool.{cond-true, cond-false, lt-leb}
-use Rattle.rules.specs.declared.Mode.{Mode}
-use Rattle.rules.specs.declared.Mode.TheVariants.{New, Recovering, Serving}
 use Rattle.rules.specs.declared.Packet.{Packet}
 use Rattle.rules.specs.State.{Node, node_of}
 use Rattle.rules.specs.Slot.{ends_recovery, at_home, sent_home}
 use Rattle.traffic.specs.Inside.{Inside}
 
-pub ends_by_count : (mode : Mode) → elim mode [ New ↦ false | Recovering root left ↦ leb left 1 | Serving root ↦ false ] ≡ ends_recovery mode
-unfolding ends_recovery
-ends_by_count New = refl
-ends_by_count (Recovering root zero) = refl
-ends_by_count (Recovering root (suc zero)) = refl
-ends_by_count (Recovering root (suc (suc left))) = lt-leb (suc (suc left)) 1 (omega arith)
-ends_by_count (Serving root) = refl
-
 module _ (nodes : List Node) (x : Packet) where
-  pub goes_home : ends_recovery (node_of nodes x.node).mode ≡ true → at_home x ≡ sent_home nodes x
-  unfolding sent_home
-  goes_home e = sym (cond-true (ends_recovery (node_of nodes x.node).mode) (at_home x) x e)
-
-  pub stays_put : ends_recovery (node_of nodes x.node).mode ≡ false → x ≡ sent_home nodes x
-  unfolding sent_home
-  stays_put e = sym (cond-false (ends_recovery (node_of nodes x.node).mode) (at_home x) x e)
-
   pub home_inside : Inside x → Inside (sent_home nodes x)
   unfolding sent_home
   home_inside h = go (ends_recovery (node_of nodes x.node).mode)
     where
       go : (b : Bool) → Inside (cond b (at_home x) x)
-      go true = (h.0, lit< tt)
+      go true = (h.0, λ p e. cc)
       go false = h
 
 -- A list whose first i elements are those of another under f, and the others as they were.

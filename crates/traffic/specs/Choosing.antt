@@ -1,18 +1,14 @@
 -- The questions that a step puts to its chooser, and what is decided by the answers.
 -- `picks before offer port after` is what a chooser allows: offered these ports, it answers this
 -- port and remembers another value.
-use Rattle.std.specs.Prelude.{◌≡◌, ℕ, ◌<◌, Bool, true, false, List, [], ◌∷◌, replicate, Some, None, MatchBool, Option, slice_index_or}
+use Rattle.std.specs.Prelude.{◌≡◌, ℕ, ◌<◌, false, List, [], ◌∷◌, MatchBool, slice_index_or}
 use Rattle.wiring.specs.Layout.{Layout}
 use Rattle.chooser.specs.declared.ports.PortSet.{PortSet}
 use Rattle.chooser.specs.PortSets as chooser
-use Rattle.rules.specs.declared.Mode.{Mode}
-use Rattle.rules.specs.declared.Mode.TheVariants.{New, Recovering, Serving}
 use Rattle.rules.specs.declared.Packet.{Packet}
 use Rattle.rules.specs.Ports.{Ports, some_port}
 use Rattle.rules.specs.State.{Node}
 use Rattle.rules.specs.Step as rules
-use Rattle.board.specs.declared.types.Entry.{Entry}
-use Rattle.board.specs.declared.types.Entry.TheVariants.{Nothing, Leads}
 use Rattle.traffic.specs.declared.types.Fate.{Fate}
 use Rattle.traffic.specs.declared.types.Fate.TheVariants.{Waits, Delivered, Returned, Crosses}
 
@@ -26,30 +22,12 @@ fate_view Delivered = rules.delivered
 fate_view Returned = rules.returned
 fate_view (Crosses node port) = rules.crosses node port
 
--- What happens to a packet by the mode of its node, whether that is its destination, and the entry
--- there: nothing yet where the entry leads on, by these ports.
-abbrev pub settles : Mode → Bool → Entry → Option Fate
-settles New arrived e = Some Waits
-settles (Recovering root left) arrived e = Some Waits
-settles (Serving root) true e = Some Delivered
-settles (Serving root) false Nothing = Some Returned
-settles (Serving root) false (Leads ports count) = None
-
-abbrev pub led_by : Entry → Ports
-led_by Nothing = replicate 4 false
-led_by (Leads ports count) = ports
-
--- Where the cable of the picked port leads.
-abbrev pub landing : Option (ℕ × ℕ) → Fate
-landing None = Waits
-landing (Some far) = Crosses far.0 far.1
-
 -- A packet that crosses a cable comes to one of four ports of a node below 64.
-abbrev pub LandsInside : Fate → Type 0
-LandsInside Waits = Unit {0}
-LandsInside Delivered = Unit {0}
-LandsInside Returned = Unit {0}
-LandsInside (Crosses node port) = (node < 64) × (port < 4)
+abbrev pub LandsInside : rules.Fate → Type 0
+LandsInside rules.waits = Unit {0}
+LandsInside rules.delivered = Unit {0}
+LandsInside rules.returned = Unit {0}
+LandsInside (rules.crosses node port) = (node < 64) × (port < 4)
 
 module _ {C : Type 0} (picks : C → PortSet → ℕ → C → Type 0) where
   -- An offer and the pick from it: the chooser's own answer; where nothing is offered the pick is

@@ -1,7 +1,6 @@
 -- How many packets stand at each port.
-use Rattle.std.specs.Prelude.{◌≡◌, ℕ, ◌+◌, ◌*◌, ◌<◌, ◌≤◌, cond, List, [], ◌∷◌, ◌++◌, slice_index}
+use Rattle.std.specs.Prelude.{◌≡◌, ℕ, ◌+◌, ◌<◌, ◌≤◌, cond, List, [], ◌∷◌, ◌++◌, slice_index, slice_index_or, Some}
 use Rattle.rules.specs.declared.Packet.{Packet}
-use Rattle.rules.specs.declared.Standing.TheVariants.{At}
 use Rattle.rules.specs.Step.{stands_at}
 use Rattle.traffic.specs.declared.types.Occupancy.{Occupancy}
 
@@ -15,7 +14,7 @@ standing_at n p (x ∷ xs) = one_at n p x + standing_at n p xs
 
 -- What an occupancy counts at port p of node n.
 abbrev pub counted : Occupancy → ℕ → ℕ → ℕ
-counted occupancy n p = slice_index occupancy.standing (4 * n + p)
+counted occupancy n p = slice_index (slice_index_or occupancy.standing n []) p
 
 -- The occupancy counts these packets, at every port.
 abbrev pub Counts : Occupancy → List Packet → Type 0
@@ -27,7 +26,7 @@ Room occupancy = (n p : ℕ) → n < 64 → p < 4 → counted occupancy n p < 65
 
 -- A packet at a port is counted there.
 abbrev pub CountedIn : Occupancy → Packet → Type 0
-CountedIn occupancy x = (p : ℕ) → x.standing ≡ At p → 1 ≤ counted occupancy x.node p
+CountedIn occupancy x = (p : ℕ) → x.standing ≡ Some p → 1 ≤ counted occupancy x.node p
 
 -- Whatever packets were counted, x is counted among them afterwards, or no more.
 abbrev pub Arrives : Occupancy → Packet → Occupancy → Type 0

@@ -5,7 +5,7 @@ use Rattle.rules.specs.declared.Refusal.{Refusal}
 use Rattle.rules.specs.declared.Refusal.TheVariants.{NodeOutOfRange, SameNode, SourceNotServing, NoEntry, WallFull, NumbersUsedUp}
 use Rattle.rules.specs.State.{node_of, entry_of}
 use Rattle.rules.specs.Slot.{is_nothing}
-use Rattle.rules.specs.Calls.{refuse_if, not_serving, most_packets, last_number, post_refused}
+use Rattle.rules.specs.Calls.{refuse_if, not_serving, most_packets, last_number}
 use Rattle.rules.specs.Runs.{Reply, refused, numbered, post, Does}
 use Rattle.board.specs.declared.types.Board.{Board}
 use Rattle.board.specs.View.{nodes_view}
@@ -33,12 +33,6 @@ why_not board flight source destination =
     first_reason (nat_le board.count source || nat_le board.count destination) (source == destination)
     (not_serving (node_of (nodes_view board) source).mode) (is_nothing (entry_of (nodes_view board) source destination))
     (nat_le most_packets flight.count) (nat_le last_number flight.last)
-
--- Why the rules turn a post down, or that they do not, on every wall with these nodes.
-abbrev pub PostTurned : Board → Flight → ℕ → ℕ → Option Refusal → Type 0
-PostTurned board flight source destination turned =
-    (layout : Layout) (owner : ℕ) → layout.count ≡ board.count →
-    post_refused layout (state board owner flight) source destination ≡ turned
 
 -- The call does what the rules say of a post, on every wall with these nodes.
 abbrev pub Posts : Board → ℕ → ℕ → ℕ → Flight → Result ℕ Refusal → Flight → Type 0

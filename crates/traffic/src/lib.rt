@@ -9,7 +9,6 @@ mod deciding;
 mod homing;
 mod occupancy;
 mod offers;
-mod parts;
 mod posting;
 mod questions;
 mod reads;

@@ -1,7 +1,6 @@
 //! What can be asked about the packets in flight.
-ghost use Rattle.std.specs.Prelude.{◌≡◌, ◌<◌, length, slice_index_or};
+ghost use Rattle.std.specs.Prelude.{◌≡◌, length};
 ghost use Rattle.std.specs.List.{slice_get};
-ghost use Rattle.traffic.specs.Inside.{nowhere};
 ghost use Rattle.traffic.specs.View.{packets_view};
 
 use crate::types::Flight;
@@ -12,26 +11,21 @@ impl Flight {
     pub fn in_flight(&self) -> usize
         ensures { result ≡ length (packets_view self.now) }
     {
-        self.count
+        self.packets().len()
     }
 
     /// The packet with so many others in flight before it, by rising number.
     pub fn packet(&self, i: usize) -> Option<Packet>
         ensures { result ≡ slice_get (packets_view self.now) i }
     {
-        if i < self.in_flight() {
-            Some(self.at(i))
-        } else {
-            None
-        }
+        self.packets().get(i).copied()
     }
 
-    // The packet at a place.
-    fn at(&self, i: usize) -> Packet
-        requires { i < 256 }
-        ensures { result ≡ slice_index_or self.now.places i nowhere }
+    // The packets in flight.
+    pub(crate) fn packets(&self) -> &[Packet]
+        ensures { result.now ≡ packets_view self.now }
     {
-        self.places[i]
+        &self.places[..self.count]
     }
 
     /// The last number given out, 0 before the first post.

@@ -118,6 +118,9 @@ impl<'a, T: Copy> Tray<'a, T> {
     }
 }
 
+// A put of one is not `put_all(&[x])`: that array would ask of each caller that its element fits in memory. So each of
+// the two has a function that writes.
+
 // The calls hand the slice on to the two functions below by a loan of its field, `let slots = &mut self.slots`, since
 // the fact beside the field is owed again at the loan's end.
 

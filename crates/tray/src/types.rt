@@ -22,6 +22,7 @@ pub struct TrayFull;
 /// ```
 #[derive(Drop)]
 pub struct Tray<'a, T: Copy> {
+    // Lent memory and no heap: a slice, and how much of it is in use.
     pub(crate) slots: &'a mut [T],
     pub(crate) used: usize,
     ghost within: { used ≤ length slots.now },

@@ -12,7 +12,6 @@ use Rattle.rules.specs.Slot.{slot}
 use Rattle.rules.specs.Calls.{refuse_if, cut_refused, after_cut, cut_end, changed, raised, hand_refused, after_hand, with_nodes}
 use Rattle.rules.specs.Runs.{Call, Reply, refused, slotted, stepped, cut, hand, slot_call, step, Does, cuts, hands, slots, step_refused, steps, Steps}
 use Rattle.rules.proofs.CallCases.{cut_does}
-use Rattle.flood.specs.declared.types.FarEnd.{FarEnd}
 use Rattle.flood.specs.View.{wired}
 use Rattle.chooser.specs.declared.ports.PortSet.{PortSet}
 use Rattle.tray.specs.declared.types.Tray.{Tray}
@@ -111,7 +110,7 @@ module _ (layout : Layout) (before mid : Core) (board : Board) (fitted : mid.boa
       fitted_state layout board mid.owner mid.flight (same_count ∙ fitted)
       ∙ ap (λ (s : State). record { nodes = nodes_view board; owner = s.owner; last = s.last; packets = s.packets }) mid_is
 
-  pub cut_call : (ends : List FarEnd) → wired layout.count ends ≡ layout → (n p : ℕ) (r : Result (Unit {0}) Refusal) →
+  pub cut_call : (ends : List (Option (ℕ × ℕ))) → wired layout.count ends ≡ layout → (n p : ℕ) (r : Result (Unit {0}) Refusal) →
       Settled (cut_refused (wired mid.board.count ends) (board_state mid.board) n p) r (λ _. nodes_view board ≡ (after_cut (wired mid.board.count ends) (board_state mid.board) n p).nodes) (board ≡ mid.board) →
       Does layout (state_of layout before) (cut n p) (done_reply r) after
   cut_call ends spells n p r settled =
@@ -130,7 +129,7 @@ module _ (layout : Layout) (before mid : Core) (board : Board) (fitted : mid.boa
       (subst (λ (k : ℕ). Settled (refuse_if (leb k n) NodeOutOfRange None) r (λ _. nodes_view board ≡ (after_hand (board_state mid.board) n).nodes) (board ≡ mid.board)) fitted settled)
 
 -- A slot on the plain part of a fitted wall.
-pub slot_did : (layout : Layout) (before mid : Core) (board : Board) (owner : ℕ) (flight : Flight) (ends : List FarEnd) (answer : SlotAnswer) → mid.board.count ≡ layout.count →
+pub slot_did : (layout : Layout) (before mid : Core) (board : Board) (owner : ℕ) (flight : Flight) (ends : List (Option (ℕ × ℕ))) (answer : SlotAnswer) → mid.board.count ≡ layout.count →
     state_of layout mid ≡ state_of layout before → wired layout.count ends ≡ layout → answer ≡ (slot (wired mid.board.count ends) (core_state mid)).answer →
     traffic-state board owner flight ≡ (slot (wired mid.board.count ends) (core_state mid)).after → board.count ≡ mid.board.count →
     Does layout (state_of layout before) slot_call (slotted answer) (state_at layout board owner flight)
@@ -183,7 +182,7 @@ module _ (layout : Layout) (before mid : Core) (flight : Flight) (fitted : mid.b
   }
 
 -- The state at power-up.
-pub powered : (layout : Layout) (board : Board) (flight : Flight) (ends : List FarEnd) (count : ℕ) → wired layout.count ends ≡ layout → count ≡ layout.count → board.count ≡ count →
+pub powered : (layout : Layout) (board : Board) (flight : Flight) (ends : List (Option (ℕ × ℕ))) (count : ℕ) → wired layout.count ends ≡ layout → count ≡ layout.count → board.count ≡ count →
     nodes_view board ≡ table count (fresh (wired count ends)) → flight.last ≡ 0 → packets_view flight ≡ [] → state_at layout board 0 flight ≡ power_up layout
 unfolding power_up
 powered layout board flight ends count spells same fitted nodes last packets =

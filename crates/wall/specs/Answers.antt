@@ -1,10 +1,11 @@
 -- What the questions answer.
-use Rattle.std.specs.Prelude.{ℕ, Bool, true, false, ◌||◌, Some, None, Ok, Err, Option, Result, nat_le}
+use Rattle.std.specs.Prelude.{◌≡◌, ℕ, Bool, true, false, ◌||◌, Some, None, Ok, Err, Option, Result, nat_le}
 use Rattle.wiring.specs.Layout.{Layout}
 use Rattle.chooser.specs.declared.ports.PortSet.{PortSet}
 use Rattle.rules.specs.declared.Refusal.{Refusal}
 use Rattle.rules.specs.declared.Refusal.TheVariants.{NodeOutOfRange}
-use Rattle.rules.specs.State.{Entry, nothing, entry}
+use Rattle.rules.specs.State.{Node, Entry, nothing, entry}
+use Rattle.rules.specs.Promise.{Recovers}
 use Rattle.traffic.specs.Choosing.{offer_set}
 
 -- Refused for a node out of range, or the value.
@@ -24,3 +25,7 @@ entry_pair (entry ports count) = Some (offer_set ports, count)
 -- The answer about an entry.
 abbrev pub entry_answer : Layout → ℕ → ℕ → Entry → Result (Option (PortSet × ℕ)) Refusal
 entry_answer layout node destination e = checked (nat_le layout.count node || nat_le layout.count destination) (entry_pair e)
+
+-- What a calm wall has of each node: its hand is down, and it does not recover.
+abbrev pub Rests : Node → Type 0
+Rests node = (node.hand ≡ false) × (Recovers node.mode → ⊥)

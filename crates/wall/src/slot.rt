@@ -18,8 +18,8 @@ fn following(owner: u8, count: u8) -> u8
 }
 
 impl Core {
-    // Sets the node count of the board. Nothing in a type ties it to the wiring's, so each call
-    // of a wall does.
+    // Sets the node count of the board. A type that ties it to the wiring's would need W: Wiring
+    // wherever a wall's type is named; so each call of a wall sets it.
     pub(crate) fn fit(&mut self, count: u8)
         ensures fitted { 1 ≤ count → count ≤ 64 → self.new.board.count ≡ count }
         ensures state { (layout : Layout) → state_of layout self.new ≡ state_of layout self.old }

@@ -27,6 +27,7 @@ pub struct Wall<W, C> {
     pub(crate) core: Core,
 }
 
+// Each call says by itself what it keeps; step keeps the wiring alone.
 impl<W: Wiring, C: Chooser> Wall<W, C> {
     /// A wall at power-up: every node new with its hand up, all cables live, nothing marked, all
     /// tables empty, no packet. Of every state that a run of calls reaches from it, in any order

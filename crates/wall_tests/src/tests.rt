@@ -27,18 +27,14 @@ const NOTHING: Outcome = Outcome {
 };
 
 fn mesh(columns: u8, rows: u8) -> Result<Mesh, Fail> {
-    match Mesh::new(columns, rows) {
-        Ok(mesh) => Ok(mesh),
-        Err(_) => Err(Fail::new("a mesh was refused")),
-    }
+    Mesh::new(columns, rows).map_err(|_| Fail::new("a mesh was refused"))
 }
 
 fn cables(bytes: &[u8]) -> Result<CableList, Fail> {
     let mut list = CableList::new();
-    match list.read(bytes) {
-        Ok(()) => Ok(list),
-        Err(_) => Err(Fail::new("a file was refused")),
-    }
+    list.read(bytes)
+        .map_err(|_| Fail::new("a file was refused"))?;
+    Ok(list)
 }
 
 fn slots<W: Wiring, C: Chooser>(wall: &mut Wall<W, C>, times: u8) {
@@ -55,21 +51,14 @@ fn leads<W: Wiring, C: Chooser>(
     second: u8,
     hops: u8,
 ) -> bool {
-    match wall.entry(node, destination) {
-        Ok(Some((ports, count))) => (count == hops)
-            & (ports.bits() == PortSet::empty().with(first).with(second).bits()),
-        Ok(None) => false,
-        Err(_) => false,
-    }
+    let ports = PortSet::empty().with(first).with(second);
+    wall.entry(node, destination) == Ok(Some((ports, hops)))
 }
 
 fn step<W: Wiring, C: Chooser>(wall: &mut Wall<W, C>) -> Option<StepCounts> {
     let mut places = [NOTHING; 4];
     let mut tray = Tray::new(&mut places);
-    match wall.step(&mut tray) {
-        Ok(counts) => Some(counts),
-        Err(_) => None,
-    }
+    wall.step(&mut tray).ok()
 }
 
 fn stepped(
@@ -79,21 +68,17 @@ fn stepped(
     returned: u16,
     waited: u16,
 ) -> bool {
-    match counts {
-        Some(c) => (c.moved == moved)
-            & (c.delivered == delivered)
-            & (c.returned == returned)
-            & (c.waited == waited),
-        None => false,
-    }
+    counts
+        == Some(StepCounts {
+            moved,
+            delivered,
+            returned,
+            waited,
+        })
 }
 
 fn serves_root<W: Wiring, C: Chooser>(wall: &Wall<W, C>, node: u8, root: u8) -> bool {
-    match wall.mode(node) {
-        Ok(Mode::Serving { root: named }) => named == root,
-        Ok(_) => false,
-        Err(_) => false,
-    }
+    wall.mode(node) == Ok(Mode::Serving { root })
 }
 
 // The triangle's marks, once all serve root 0.
@@ -132,10 +117,7 @@ fn second_root<W: Wiring + Drop, C: Chooser + Drop>(mut wall: Wall<W, C>) -> boo
     slots(&mut wall, 5);
     let cut = wall.cut(0, 1).is_ok();
     let answer = wall.slot();
-    let down = match wall.is_hand_up(0) {
-        Ok(up) => !up,
-        Err(_) => false,
-    };
+    let down = wall.is_hand_up(0) == Ok(false);
     cut & (answer.owner == 1) & (answer.act == Act::Root) & down
 }
 

@@ -1,14 +1,15 @@
 -- Laying cables over a table: when a cable is accepted, and what the table then has.
-use Rattle.std.proofs.Common.{◌≡◌, ℕ, ◌+◌, ◌<◌, ◌≤◌, Bool, true, false, cond, eqb, leb, ◌⊎◌, List, [], ◌∷◌, length, is_some, Some, None, Ok, Option, sym, refl, ap, ◌∙◌, inl, inr, ⊎_elim, arith}
+use Rattle.std.proofs.Common.{◌≡◌, ℕ, ◌+◌, ◌<◌, ◌≤◌, Bool, true, false, cond, eqb, leb, ◌⊎◌, List, [], ◌∷◌, length, is_some, is_ok, Some, None, Ok, Option, sym, refl, ap, ◌∙◌, inl, inr, ⊎_elim, arith}
 use Rattle.std.proofs.lemmas.List.{length-set}
 use Rattle.std.proofs.lemmas.Bool.{leb-false, lt-leb, eqb-false, ne_eqb}
-use Rattle.wiring.specs.Cables.{Table, slot, bare, join}
+use Rattle.wiring.specs.Layout.{Sound}
+use Rattle.wiring.specs.Cables.{Table, slot, bare, join, cabled}
 use Rattle.wiring.specs.File.{taken, problem, cable_fault, refused_or, on_ok, lay_all}
 use Rattle.wiring.specs.Spells.{Between, Joined, Good, Free, Apart}
 use Rattle.wiring.specs.declared.cable.Cable.{Cable}
 use Rattle.fault.specs.declared.CableProblem.{CableProblem}
 use Rattle.wiring.specs.Sound.{none_is_not_some}
-use Rattle.wiring.proofs.Table.{at, Now, at_start, at_end, elsewhere, join_at, bare_at}
+use Rattle.wiring.proofs.Table.{at, far_some, some_far, Now, at_start, at_end, elsewhere, join_at, bare_at}
 
 -- A cable can be laid: it is good, and both of its ends are bare.
 pub record Fits (nodes : ℕ) (ends : Table) (c : Cable) : Type 0 where
@@ -54,7 +55,11 @@ module _ (nodes : ℕ) (ends : Table) (c : Cable) where
       let g = f.good in
       rw (lt-leb nodes c.start.0 g.start_node, lt-leb 4 c.start.1 g.start_port, lt-leb nodes c.end.0 g.end_node, lt-leb 4 c.end.1 g.end_port, ne_eqb c.start.0 c.end.0 g.two_nodes, test_bare (at ends c.start) f.start_bare, test_bare (at ends c.end) f.end_bare)
 
-join_size : (ends : Table) (c : Cable) → length ends ≡ 256 → length (join ends c) ≡ 256
+pub unrefused : {A F : Type 0} (o : Option F) (x : A) → is_ok (refused_or o x) ≡ true → o ≡ None
+unrefused None x e = refl
+unrefused (Some f) x e = let z : ◌≡◌ {A = ℕ} 0 1 = cc in absurd (omega arith)
+
+pub join_size : (ends : Table) (c : Cable) → length ends ≡ 256 → length (join ends c) ≡ 256
 join_size ends c size = simp length-set size
 
 module _ (nodes : ℕ) (few : nodes ≤ 64) where
@@ -97,6 +102,43 @@ module _ (nodes : ℕ) (few : nodes ≤ 64) where
         go (at_start a b) = absurd (s (sym a))
         go (at_end a b) = absurd (t (sym a))
         go (elsewhere a b u) = u ∙ e
+
+  -- One cable more keeps the facts of a wiring: a far end is an old one, or the cable's.
+  module _ (ends : Table) (size : length ends ≡ 256) (c : Cable) (f : Fits nodes ends c) (s : Sound (cabled nodes ends)) where
+    in_range_one : (n p m q : ℕ) → (n < nodes) × (p < 4) × (at (join ends c) (n, p) ≡ Some (m, q)) → (m < nodes) × (q < 4)
+    in_range_one n p m q h = go (leads_one ends size c f (n, p) (m, q) h.1 h.2)
+      where
+        go : (at ends (n, p) ≡ Some (m, q)) ⊎ Between c (n, p) (m, q) → (m < nodes) × (q < 4)
+        go (inl e) = s.in_range n p m q (some_far nodes ends n p m q h.0 h.1 e)
+        go (inr (inl (a, b))) = (rw b at f.good.end_node, rw b at f.good.end_port)
+        go (inr (inr (a, b))) = (rw b at f.good.start_node, rw b at f.good.start_port)
+
+    returns_one : (n p m q : ℕ) → (n < nodes) × (p < 4) × (at (join ends c) (n, p) ≡ Some (m, q)) → (cabled nodes (join ends c)).far m q ≡ Some (n, p)
+    returns_one n p m q h =
+        let r = in_range_one n p m q h in
+        some_far nodes (join ends c) m q n p r.0 r.1 (led_one ends size c f (m, q) (n, p) r.1 (go (leads_one ends size c f (n, p) (m, q) h.1 h.2)))
+      where
+        go : (at ends (n, p) ≡ Some (m, q)) ⊎ Between c (n, p) (m, q) → (at ends (m, q) ≡ Some (n, p)) ⊎ Between c (m, q) (n, p)
+        go (inl e) = inl (far_some nodes ends m q n p (s.returns n p m q (some_far nodes ends n p m q h.0 h.1 e))).2
+        go (inr (inl (a, b))) = inr (inr (b, a))
+        go (inr (inr (a, b))) = inr (inl (b, a))
+
+    no_self_one : (n p m q : ℕ) → (n < nodes) × (p < 4) × (at (join ends c) (n, p) ≡ Some (m, q)) → m ≡ n → ⊥
+    no_self_one n p m q h same = go (leads_one ends size c f (n, p) (m, q) h.1 h.2)
+      where
+        go : (at ends (n, p) ≡ Some (m, q)) ⊎ Between c (n, p) (m, q) → ⊥
+        go (inl e) = s.no_self n p m q (some_far nodes ends n p m q h.0 h.1 e) same
+        go (inr (inl (a, b))) = f.good.two_nodes (ap (λ z. z.0) a ∙ sym same ∙ sym (ap (λ z. z.0) b))
+        go (inr (inr (a, b))) = f.good.two_nodes (ap (λ z. z.0) b ∙ same ∙ sym (ap (λ z. z.0) a))
+
+    pub join_sound : Sound (cabled nodes (join ends c))
+    join_sound = record {
+      some_nodes = s.some_nodes;
+      few_nodes = s.few_nodes;
+      in_range = λ n p m q e. in_range_one n p m q (far_some nodes (join ends c) n p m q e);
+      returns = λ n p m q e. returns_one n p m q (far_some nodes (join ends c) n p m q e);
+      no_self = λ n p m q e. no_self_one n p m q (far_some nodes (join ends c) n p m q e);
+    }
 
   -- What is known of cables that were laid one after another.
   pub record Laid (ends : Table) (cs : List Cable) (after : Table) : Type 0 where

@@ -1,6 +1,5 @@
 -- A file is accepted exactly when it spells a wiring, and the wiring read is the one spelled.
-use Rattle.std.proofs.Common.{◌≡◌, ℕ, ◌<◌, ◌≤◌, true, false, ◌&&◌, ltb, ◌⊎◌, List, [], ◌∷◌, length, Some, None, Ok, Err, Option, Result, sym, refl, ap, ◌∙◌, inl, inr, arith}
-use Rattle.std.proofs.lemmas.Bool.{lt-ltb, ltb-true, and_parts, cases_Bool}
+use Rattle.std.proofs.Common.{◌≡◌, ℕ, ◌<◌, ◌≤◌, ◌⊎◌, List, [], ◌∷◌, length, Some, None, Ok, Err, Option, Result, sym, refl, ap, ◌∙◌, inl, inr, arith}
 use Rattle.wiring.specs.Layout.{Layout, Sound}
 use Rattle.wiring.specs.Cables.{Table, slot, bare, cabled}
 use Rattle.wiring.specs.File.{nodes_said, cables_said, header_fault, cables_from, refused_or, on_ok, on_err, lay_all, read_table, read_file}
@@ -12,7 +11,7 @@ use Rattle.fault.specs.declared.HeaderFault.TheVariants as header
 use Rattle.fault.specs.declared.WallFault.{WallFault}
 use Rattle.fault.specs.declared.WallFault.TheVariants as wall
 use Rattle.wiring.specs.Sound.{none_is_not_some, same_layout}
-use Rattle.wiring.proofs.Table.{at, bare_at}
+use Rattle.wiring.proofs.Table.{at, bare_at, far_some, some_far}
 use Rattle.wiring.proofs.Laying.{Laid, laid, accepted, clear_bare}
 use Rattle.wiring.proofs.Bytes.{Headed, headed, no_fault, length_bytes, all_there, all_written, all_read}
 
@@ -52,17 +51,6 @@ spelled_sound bytes l s = record {
   no_self = λ n p m q e same. (joined_inside l.count s.cables s.apart (n, p) (m, q) (s.leads n p m q e)).apart same;
 }
 
--- What a table means.
-far_some : (count : ℕ) (ends : Table) (n p m q : ℕ) → (cabled count ends).far n p ≡ Some (m, q) → (p < 4) × (at ends (n, p) ≡ Some (m, q))
-far_some count ends n p m q e = go (cases_Bool (ltb n count && ltb p 4))
-  where
-    go : ((ltb n count && ltb p 4) ≡ true) ⊎ ((ltb n count && ltb p 4) ≡ false) → (p < 4) × (at ends (n, p) ≡ Some (m, q))
-    go (inl t) = (ltb-true p 4 (and_parts (ltb n count) (ltb p 4) t).1, rw t at e)
-    go (inr t) = absurd (none_is_not_some (rw t at e))
-
-some_far : (count : ℕ) (ends : Table) (n p m q : ℕ) → n < count → p < 4 → at ends (n, p) ≡ Some (m, q) → (cabled count ends).far n p ≡ Some (m, q)
-some_far count ends n p m q h k e = rw (lt-ltb n count h, lt-ltb p 4 k) e
-
 -- Cables laid over the bare table lead where they join, and nowhere else.
 module _ (nodes : ℕ) (few : nodes ≤ 64) (cs : List Cable) (ends : Table) (done : lay_all nodes 0 bare cs ≡ Ok ends) where
   all_laid : Laid nodes few bare cs ends
@@ -71,7 +59,7 @@ module _ (nodes : ℕ) (few : nodes ≤ 64) (cs : List Cable) (ends : Table) (do
   table_joins : (n p m q : ℕ) → (cabled nodes ends).far n p ≡ Some (m, q) → Joined cs (n, p) (m, q)
   table_joins n p m q e =
       let f = far_some nodes ends n p m q e in
-      go (all_laid.leads (n, p) (m, q) f.0 f.1)
+      go (all_laid.leads (n, p) (m, q) f.1 f.2)
     where
       go : (at bare (n, p) ≡ Some (m, q)) ⊎ Joined cs (n, p) (m, q) → Joined cs (n, p) (m, q)
       go (inl e) = absurd (none_is_not_some (sym (bare_at (slot (n, p))) ∙ e))

@@ -1,7 +1,7 @@
 -- Tables of far ends: what stands where, before and after a cable is laid.
 use Rattle.std.proofs.Common.{◌≡◌, ℕ, ◌<◌, ◌≤◌, Bool, true, false, cond, ◌&&◌, ltb, ◌⊎◌, length, get_or, set, Some, None, Option, sym, refl, ap, ◌∙◌, inl, inr, arith}
 use Rattle.std.proofs.lemmas.List.{get_or-replicate, get_or_past, get_or-set_same, get_or-set_other, length-set}
-use Rattle.std.proofs.lemmas.Bool.{cases_lt, cases_eq}
+use Rattle.std.proofs.lemmas.Bool.{lt-ltb, ltb-true, and_parts, cases_Bool, cases_lt, cases_eq}
 use Rattle.wiring.specs.Layout.{Sound}
 use Rattle.wiring.specs.Cables.{Table, slot, bare, join, cabled, lone}
 use Rattle.wiring.specs.Spells.{Good}
@@ -38,6 +38,17 @@ bare_lone = same_layout (cabled 1 bare) lone refl (bare_far 1)
 -- What stands at an end.
 abbrev pub at : Table → ℕ × ℕ → Option (ℕ × ℕ)
 at ends x = get_or ends (slot x) None
+
+-- What a table means.
+pub far_some : (count : ℕ) (ends : Table) (n p m q : ℕ) → (cabled count ends).far n p ≡ Some (m, q) → (n < count) × (p < 4) × (at ends (n, p) ≡ Some (m, q))
+far_some count ends n p m q e = go (cases_Bool (ltb n count && ltb p 4))
+  where
+    go : ((ltb n count && ltb p 4) ≡ true) ⊎ ((ltb n count && ltb p 4) ≡ false) → (n < count) × (p < 4) × (at ends (n, p) ≡ Some (m, q))
+    go (inl t) = let parts = and_parts (ltb n count) (ltb p 4) t in (ltb-true n count parts.0, ltb-true p 4 parts.1, rw t at e)
+    go (inr t) = absurd (none_is_not_some (rw t at e))
+
+pub some_far : (count : ℕ) (ends : Table) (n p m q : ℕ) → n < count → p < 4 → at ends (n, p) ≡ Some (m, q) → (cabled count ends).far n p ≡ Some (m, q)
+some_far count ends n p m q h k e = rw (lt-ltb n count h, lt-ltb p 4 k) e
 
 same_pair : (x y : ℕ × ℕ) → x.0 ≡ y.0 → x.1 ≡ y.1 → x ≡ y
 same_pair x y e f = λ i. (e i, f i)

@@ -19,6 +19,13 @@ nodes_said bytes = slice_index bytes 5
 abbrev pub cables_said : List ℕ → ℕ
 cables_said bytes = slice_index bytes 6
 
+-- The first letter that is not that of TWL.
+abbrev pub mark_fault : List ℕ → Option HeaderFault
+mark_fault bytes =
+    cond (not (slice_index bytes 0 == 0x54)) (Some (header.Mark 0))
+    (cond (not (slice_index bytes 1 == 0x57)) (Some (header.Mark 1))
+    (cond (not (slice_index bytes 2 == 0x4C)) (Some (header.Mark 2)) None))
+
 abbrev pub header_fault : List ℕ → Option HeaderFault
 header_fault bytes =
     cond (nat_lt (length bytes) 7) (Some (header.Short (length bytes)))
@@ -44,6 +51,14 @@ cables_from bytes i (suc k) = cable_at bytes i ∷ cables_from bytes (i + 1) k
 
 abbrev pub taken : Table → ℕ × ℕ → Bool
 taken ends end = is_some (slice_index_or ends (slot end) None)
+
+-- What is wrong with a node and a port of a cable, at this byte and the next.
+abbrev pub end_problem : ℕ → ℕ × ℕ → ℕ → Option (CableProblem × ℕ)
+end_problem nodes end byte =
+    cond (nat_le nodes end.0) (Some (NoSuchNode, byte)) (cond (nat_le 4 end.1) (Some (NoSuchPort, byte + 1)) None)
+
+abbrev pub taken_problem : Table → ℕ × ℕ → ℕ → Option (CableProblem × ℕ)
+taken_problem ends end byte = cond (taken ends end) (Some (PortTaken, byte)) None
 
 -- What is wrong with a cable, laid over a table, and at which of its four bytes.
 abbrev pub problem : ℕ → Table → Cable → Option (CableProblem × ℕ)

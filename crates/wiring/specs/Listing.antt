@@ -1,5 +1,5 @@
 -- The cables of any wiring, each once and from its lower node, by rising node and port.
-use Rattle.std.specs.Prelude.{ℕ, zero, suc, cond, List, [], ◌∷◌, ◌++◌, length, Some, None, Option, nat_lt}
+use Rattle.std.specs.Prelude.{ℕ, zero, suc, Bool, false, cond, List, [], ◌∷◌, ◌++◌, length, Some, None, Option, nat_lt}
 use Rattle.wiring.specs.Layout.{Layout}
 use Rattle.wiring.specs.declared.cable.Cable.{Cable}
 
@@ -7,6 +7,11 @@ use Rattle.wiring.specs.declared.cable.Cable.{Cable}
 abbrev pub from_lower : ℕ → ℕ → Option (ℕ × ℕ) → List Cable
 from_lower n p None = []
 from_lower n p (Some end) = cond (nat_lt n end.0) (record { start = (n, p); end = end } ∷ []) []
+
+-- Whether a far end makes this node the lower one.
+abbrev pub begins : ℕ → Option (ℕ × ℕ) → Bool
+begins n None = false
+begins n (Some end) = nat_lt n end.0
 
 abbrev pub node_cables : Layout → ℕ → List Cable
 node_cables l n = from_lower n 0 (l.far n 0) ++ (from_lower n 1 (l.far n 1) ++ (from_lower n 2 (l.far n 2) ++ from_lower n 3 (l.far n 3)))

@@ -1,8 +1,8 @@
 //! The cable list: a wiring that a wall file spells. It is a table of far ends, so that a question
 //! is one read. specs/Cables.antt says what a table means.
-ghost use Rattle.std.specs.Prelude.{◌≡◌, ◌≤◌, List, length};
+ghost use Rattle.std.specs.Prelude.{◌≡◌, ◌<◌, ◌≤◌, List, length};
 ghost use Rattle.wiring.specs.Layout.{Sound};
-ghost use Rattle.wiring.specs.Cables.{bare, cabled, lone};
+ghost use Rattle.wiring.specs.Cables.{slot, bare, cabled, lone};
 ghost use Rattle.wiring.specs.Sound.{sound_again};
 
 use crate::Wiring;
@@ -17,11 +17,14 @@ pub struct CableList {
     ghost sound: { ∥ Sound (cabled count ends) ∥₁ },
 }
 
-// The table of no cable.
-fn no_cables() -> [Option<(u8, u8)>; 256]
-    ensures { result ≡ bare }
+// The place of an end in the table.
+pub(crate) fn slot_of(end: (u8, u8)) -> usize
+    requires node { end.0 < 64 }
+    requires port { end.1 < 4 }
+    ensures value { result ≡ slot end }
+    ensures bound { result < 256 }
 {
-    [None; 256]
+    4 * end.0 as usize + end.1 as usize
 }
 
 impl CableList {
@@ -29,9 +32,19 @@ impl CableList {
     pub fn new() -> CableList
         ensures { cabled result.count result.ends ≡ lone }
     {
+        CableList::without_cables(1)
+    }
+
+    // So many nodes and no cable.
+    pub(crate) fn without_cables(count: u8) -> CableList
+        requires some { 1 ≤ count }
+        requires few { count ≤ 64 }
+        ensures count { result.count ≡ count }
+        ensures ends { result.ends ≡ bare }
+    {
         CableList {
-            count: 1,
-            ends: no_cables(),
+            count,
+            ends: [None; 256],
         }
     }
 }
@@ -47,7 +60,7 @@ impl Wiring for CableList {
 
     fn far_end(&self, node: u8, port: u8) -> Option<(u8, u8)> {
         if node < self.node_count() && port < 4 {
-            self.ends[4 * node as usize + port as usize]
+            self.ends[slot_of((node, port))]
         } else {
             None
         }

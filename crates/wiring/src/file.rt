@@ -3,14 +3,27 @@
 //! node, port, node, port. specs/File.antt says what the reader answers, byte by byte, and
 //! specs/Spells.antt what it is for a file to spell a wiring.
 ghost use Rattle.std.specs.Prelude.{◌≡◌, ℕ, ◌+◌, ◌*◌, ◌<◌, ◌≤◌, List, length, Some, None, Ok, Err, MatchResult};
-ghost use Rattle.wiring.specs.Cables.{slot, cabled};
+ghost use Rattle.wiring.specs.Cables.{cabled};
 ghost use Rattle.wiring.specs.Spells.{Spelling, Unspelled};
 ghost use Rattle.wiring.specs.Wired.{wired};
-ghost use Rattle.wiring.specs.File.{header_fault, nodes_said, cables_said, cable_at, cables_from, taken, problem, lay, lay_all, Gives, read_table, read_file};
+ghost use Rattle.wiring.specs.File.{mark_fault, header_fault, nodes_said, cable_at, refused_or, end_problem, taken_problem, problem, lay, Gives, read_table, read_file};
 
 use crate::cable::Cable;
-use crate::cables::CableList;
+use crate::cables::{CableList, slot_of};
 use fault::{CableFault, CableProblem, HeaderFault, WallFault};
+
+// The check of the mark, letter by letter.
+fn check_mark(bytes: &[u8]) -> Result<(), HeaderFault>
+    requires { 3 ≤ length bytes.now }
+    ensures { result ≡ refused_or (mark_fault bytes.now) tt }
+{
+    for (at, letter) in b"TWL".iter().enumerate() {
+        if bytes[at] != *letter {
+            return Err(HeaderFault::Mark(at as u8));
+        }
+    }
+    Ok(())
+}
 
 // The checks of the header, in the order of their numbers.
 fn check_header(bytes: &[u8]) -> Result<(), HeaderFault>
@@ -20,19 +33,11 @@ fn check_header(bytes: &[u8]) -> Result<(), HeaderFault>
     if length < 7 {
         return Err(HeaderFault::Short(length as u8));
     }
-    if bytes[0] != 0x54 {
-        return Err(HeaderFault::Mark(0));
-    }
-    if bytes[1] != 0x57 {
-        return Err(HeaderFault::Mark(1));
-    }
-    if bytes[2] != 0x4c {
-        return Err(HeaderFault::Mark(2));
-    }
+    check_mark(bytes)?;
     if bytes[3] != 0 || bytes[4] != 1 {
         return Err(HeaderFault::Version);
     }
-    if bytes[5] == 0 || bytes[5] > 64 {
+    if !(1..=64).contains(&bytes[5]) {
         return Err(HeaderFault::NodeCount);
     }
     if bytes[6] > 128 {
@@ -44,7 +49,7 @@ fn check_header(bytes: &[u8]) -> Result<(), HeaderFault>
     Ok(())
 }
 
-// The four bytes of a cable.
+// The four bytes of a cable. The index is also that of a fault, so cables are gone through by it and not by chunks.
 fn cable_in(bytes: &[u8], index: u8) -> Cable
     requires { 7 + 4 * index + 4 ≤ length bytes.now }
     ensures { result ≡ cable_at bytes.now index }
@@ -56,97 +61,74 @@ fn cable_in(bytes: &[u8], index: u8) -> Cable
     }
 }
 
-// The place of an end in the table.
-fn slot_of(end: (u8, u8)) -> usize
-    requires node { end.0 < 64 }
-    requires port { end.1 < 4 }
-    ensures value { result ≡ slot end }
-    ensures bound { result < 256 }
-{
-    4 * end.0 as usize + end.1 as usize
-}
+impl CableList {
+    // An end is a node that there is and one of its ports; `byte` is where the cable has it.
+    fn check_end(&self, end: (u8, u8), byte: u8) -> Result<(), (CableProblem, u8)>
+        requires { byte < 3 }
+        ensures { result ≡ refused_or (end_problem self.now.count end byte) tt }
+    {
+        if end.0 >= self.count {
+            return Err((CableProblem::NoSuchNode, byte));
+        }
+        if end.1 >= 4 {
+            return Err((CableProblem::NoSuchPort, byte + 1));
+        }
+        Ok(())
+    }
 
-// What is wrong with a cable, and at which of its bytes: its nodes and ports in order, then whether
-// both ends are on one node, then whether an end's port is taken.
-fn problem_of(nodes: u8, ends: &[Option<(u8, u8)>], cable: Cable) -> Option<(CableProblem, u8)>
-    requires few { nodes ≤ 64 }
-    requires size { length ends.now ≡ 256 }
-    ensures { result ≡ problem nodes ends.now cable }
-{
-    if cable.start.0 >= nodes {
-        return Some((CableProblem::NoSuchNode, 0));
+    // No cable is at an end yet; `byte` is where the cable has its port.
+    fn check_bare(&self, end: (u8, u8), byte: u8) -> Result<(), (CableProblem, u8)>
+        requires node { end.0 < 64 }
+        requires port { end.1 < 4 }
+        ensures { result ≡ refused_or (taken_problem self.now.ends end byte) tt }
+    {
+        if self.ends[slot_of(end)].is_some() {
+            return Err((CableProblem::PortTaken, byte));
+        }
+        Ok(())
     }
-    if cable.start.1 >= 4 {
-        return Some((CableProblem::NoSuchPort, 1));
-    }
-    if cable.end.0 >= nodes {
-        return Some((CableProblem::NoSuchNode, 2));
-    }
-    if cable.end.1 >= 4 {
-        return Some((CableProblem::NoSuchPort, 3));
-    }
-    if cable.start.0 == cable.end.0 {
-        return Some((CableProblem::OneNode, 0));
-    }
-    if ends[slot_of(cable.start)].is_some() {
-        return Some((CableProblem::PortTaken, 1));
-    }
-    if ends[slot_of(cable.end)].is_some() {
-        return Some((CableProblem::PortTaken, 3));
-    }
-    None
-}
 
-// Lays one cable over the table, at both of its ends, or says what is wrong with it.
-fn lay_cable(
-    nodes: u8,
-    index: u8,
-    ends: &mut [Option<(u8, u8)>],
-    cable: Cable,
-) -> Result<(), CableFault>
-    requires few { nodes ≤ 64 }
-    requires size { length ends.old ≡ 256 }
-    ensures { Gives (lay nodes index ends.old cable) result ends.new }
-{
-    if let Some((problem, byte)) = problem_of(nodes, ends, cable) {
-        let place = 7 + 4 * index as u16 + byte as u16;
-        return Err(CableFault {
+    // Whether a cable can be laid, else what is wrong with it and at which of its bytes: its nodes
+    // and ports in order, then whether both ends are on one node, then whether a port is taken.
+    fn check(&self, cable: Cable) -> Result<(), (CableProblem, u8)>
+        ensures { result ≡ refused_or (problem self.now.count self.now.ends cable) tt }
+    {
+        self.check_end(cable.start, 0)?;
+        self.check_end(cable.end, 2)?;
+        if cable.start.0 == cable.end.0 {
+            return Err((CableProblem::OneNode, 0));
+        }
+        self.check_bare(cable.start, 1)?;
+        self.check_bare(cable.end, 3)
+    }
+
+    // Lays one cable of a file, at both of its ends, or says what is wrong with it.
+    fn lay(&mut self, index: u8, cable: Cable) -> Result<(), CableFault>
+        ensures count { self.new.count ≡ self.old.count }
+        ensures ends { Gives (lay self.old.count index self.old.ends cable) result self.new.ends }
+    {
+        self.check(cable).map_err(|(problem, byte)| CableFault {
             problem,
             index,
-            place,
-        });
+            place: 7 + 4 * index as u16 + byte as u16,
+        })?;
+        self.ends[slot_of(cable.start)] = Some(cable.end);
+        self.ends[slot_of(cable.end)] = Some(cable.start);
+        Ok(())
     }
-    ends[slot_of(cable.start)] = Some(cable.end);
-    ends[slot_of(cable.end)] = Some(cable.start);
-    Ok(())
 }
 
-// Lays the cables of a file one after another, up to the first that is refused.
-fn lay_cables(
-    bytes: &[u8],
-    nodes: u8,
-    cables: u8,
-    ends: &mut [Option<(u8, u8)>],
-) -> Result<(), CableFault>
-    requires few { nodes ≤ 64 }
-    requires size { length ends.old ≡ 256 }
-    requires whole { length bytes.now ≡ 7 + 4 * cables }
-    ensures { Gives (lay_all nodes 0 ends.old (cables_from bytes.now 0 cables)) result ends.new }
-{
-    for index in 0..cables {
-        lay_cable(nodes, index, ends, cable_in(bytes, index))?;
-    }
-    Ok(())
-}
-
-// The table of far ends that a file gives.
-fn read_table(bytes: &[u8]) -> Result<[Option<(u8, u8)>; 256], HeaderFault>
-    ensures { result ≡ read_table bytes.now }
+// The list that a file gives: its cables are laid one after another, up to the first that is
+// refused.
+fn read_list(bytes: &[u8]) -> Result<CableList, HeaderFault>
+    ensures { MatchResult result (λ l. (l.count ≡ nodes_said bytes.now) × (read_table bytes.now ≡ Ok l.ends)) (λ f. read_table bytes.now ≡ Err f) }
 {
     check_header(bytes)?;
-    let mut ends = [None; 256];
-    lay_cables(bytes, bytes[5], bytes[6], &mut ends)?;
-    Ok(ends)
+    let mut list = CableList::without_cables(bytes[5]);
+    for index in 0..bytes[6] {
+        list.lay(index, cable_in(bytes, index))?;
+    }
+    Ok(list)
 }
 
 impl CableList {
@@ -156,11 +138,7 @@ impl CableList {
         ensures answer { MatchResult result (λ _. read_file bytes.now ≡ Ok (wired self.new)) (λ f. (read_file bytes.now ≡ Err f) × (self.new ≡ self.old)) }
         ensures spelled { MatchResult result (λ _. Spelling bytes.now (wired self.new)) (λ _. Unspelled bytes.now) }
     {
-        let ends = read_table(bytes)?;
-        *self = CableList {
-            count: bytes[5],
-            ends,
-        };
+        *self = read_list(bytes)?;
         Ok(())
     }
 }

@@ -25,7 +25,7 @@ impl Mesh {
     pub fn new(columns: u8, rows: u8) -> Result<Mesh, WallFault>
         ensures { MatchResult result (λ m. Sides columns rows × (m.columns ≡ columns) × (m.rows ≡ rows)) (λ f. (Sides columns rows → ⊥) × (f ≡ MeshSide)) }
     {
-        if columns < 1 || columns > 8 || rows < 1 || rows > 8 {
+        if !(1..=8).contains(&columns) || !(1..=8).contains(&rows) {
             return Err(WallFault::MeshSide);
         }
         Ok(Mesh { columns, rows })

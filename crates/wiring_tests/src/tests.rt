@@ -1,6 +1,5 @@
 //! Every refusal of a wall file with its number, layer, index and place, and the list left as it
 //! stood; the largest file; meshes.
-ghost use Rattle.std.specs.Prelude.{◌≡◌, length};
 
 use fault::{Layer, WallFault};
 use std::process::Abort;
@@ -27,42 +26,64 @@ fn is_pair(rt: &impl Abort, list: &CableList) {
     assert_eq!(rt; list.far_end(2, 0), None);
 }
 
-// The reader refuses these bytes so, and leaves the list as it stood.
-fn refused(
-    rt: &impl Abort,
-    bytes: &[u8],
+// What is told of a refusal.
+#[derive(Clone, Copy, PartialEq, Eq, Debug)]
+struct Told {
     number: u8,
     layer: Layer,
     index: u8,
     place: u16,
-) -> Result<(), Fail> {
+}
+
+impl From<WallFault> for Told {
+    fn from(fault: WallFault) -> Told {
+        Told {
+            number: fault.number(),
+            layer: fault.layer(),
+            index: fault.index(),
+            place: fault.place(),
+        }
+    }
+}
+
+// A refusal that the header tells.
+fn header(number: u8, place: u16) -> Told {
+    Told {
+        number,
+        layer: Layer::InHeader,
+        index: 0,
+        place,
+    }
+}
+
+// A refusal that a cable tells.
+fn cable(number: u8, index: u8, place: u16) -> Told {
+    Told {
+        number,
+        layer: Layer::InCable,
+        index,
+        place,
+    }
+}
+
+// The reader refuses these bytes so, and leaves the list as it stood.
+fn refused(rt: &impl Abort, bytes: &[u8], told: Told) -> Result<(), Fail> {
     let mut list = CableList::new();
     assert!(rt; list.read(&PAIR).is_ok());
     let Err(fault) = list.read(bytes) else {
         return Err(Fail::new("accepted"));
     };
-    assert_eq!(rt; fault.number(), number);
-    assert_eq!(rt; fault.layer(), layer);
-    assert_eq!(rt; fault.index(), index);
-    assert_eq!(rt; fault.place(), place);
+    assert_eq!(rt; Told::from(fault), told);
     is_pair(rt, &list);
     Ok(())
 }
 
 // The same of the triangle's file with one byte changed.
-fn refused_with(
-    rt: &impl Abort,
-    at: usize,
-    byte: u8,
-    number: u8,
-    layer: Layer,
-    index: u8,
-    place: u16,
-) -> Result<(), Fail> {
+fn refused_with(rt: &impl Abort, at: usize, byte: u8, told: Told) -> Result<(), Fail> {
     let mut bytes = TRIANGLE;
     assert!(rt; at < 19);
     bytes[at] = byte;
-    refused(rt, &bytes, number, layer, index, place)
+    refused(rt, &bytes, told)
 }
 
 #[test]
@@ -83,26 +104,12 @@ fn reads_the_triangle(rt: HostRuntime) {
 #[test]
 fn refuses_every_truncation_and_a_byte_too_many(rt: HostRuntime) -> Result<(), Fail> {
     for length in 0..7u8 {
-        refused(
-            &rt,
-            &TRIANGLE[0..length as usize],
-            1,
-            Layer::InHeader,
-            0,
-            length as u16,
-        )?;
+        refused(&rt, &TRIANGLE[0..length as usize], header(1, length as u16))?;
     }
     for length in 7..19usize {
-        refused(&rt, &TRIANGLE[0..length], 6, Layer::InHeader, 0, 6)?;
+        refused(&rt, &TRIANGLE[0..length], header(6, 6))?;
     }
-    refused(
-        &rt,
-        &[0x54, 0x57, 0x4c, 0, 1, 1, 0, 0],
-        6,
-        Layer::InHeader,
-        0,
-        6,
-    )
+    refused(&rt, &[0x54, 0x57, 0x4c, 0, 1, 1, 0, 0], header(6, 6))
 }
 
 #[test]
@@ -120,7 +127,7 @@ fn refuses_a_bad_byte_of_the_header(rt: HostRuntime) -> Result<(), Fail> {
         (6, 2, 6, 6),
         (6, 4, 6, 6),
     ] {
-        refused_with(&rt, at, byte, number, Layer::InHeader, 0, place)?;
+        refused_with(&rt, at, byte, header(number, place))?;
     }
     Ok(())
 }
@@ -151,7 +158,7 @@ fn refuses_a_bad_byte_of_a_cable(rt: HostRuntime) -> Result<(), Fail> {
         (16, 3, 10, 2, 16),
         (18, 0, 10, 2, 18),
     ] {
-        refused_with(&rt, at, byte, number, Layer::InCable, index, place)?;
+        refused_with(&rt, at, byte, cable(number, index, place))?;
     }
     Ok(())
 }
@@ -160,74 +167,42 @@ fn refuses_a_bad_byte_of_a_cable(rt: HostRuntime) -> Result<(), Fail> {
 fn checks_in_order(rt: HostRuntime) -> Result<(), Fail> {
     // A cable with every fault is refused for its first byte, and so on through its bytes.
     let mut bytes = [0x54, 0x57, 0x4c, 0, 1, 2, 1, 2, 4, 2, 4];
-    refused(&rt, &bytes, 7, Layer::InCable, 0, 7)?;
+    refused(&rt, &bytes, cable(7, 0, 7))?;
     bytes[7] = 1;
-    refused(&rt, &bytes, 8, Layer::InCable, 0, 8)?;
+    refused(&rt, &bytes, cable(8, 0, 8))?;
     bytes[8] = 3;
-    refused(&rt, &bytes, 7, Layer::InCable, 0, 9)?;
+    refused(&rt, &bytes, cable(7, 0, 9))?;
     bytes[9] = 1;
-    refused(&rt, &bytes, 8, Layer::InCable, 0, 10)?;
+    refused(&rt, &bytes, cable(8, 0, 10))?;
     bytes[10] = 3;
-    refused(&rt, &bytes, 9, Layer::InCable, 0, 7)?;
+    refused(&rt, &bytes, cable(9, 0, 7))?;
     bytes[9] = 0;
     let mut list = CableList::new();
     assert!(rt; list.read(&bytes).is_ok());
     // A header with every fault is refused for its length first.
-    refused(&rt, &[0, 0, 0, 0, 0, 0], 1, Layer::InHeader, 0, 6)?;
-    refused(&rt, &[0, 0, 0, 0, 0, 0, 200], 2, Layer::InHeader, 0, 0)?;
-    refused(
-        &rt,
-        &[0x54, 0x57, 0x4c, 9, 9, 0, 200],
-        3,
-        Layer::InHeader,
-        0,
-        3,
-    )?;
-    refused(
-        &rt,
-        &[0x54, 0x57, 0x4c, 0, 1, 0, 200],
-        4,
-        Layer::InHeader,
-        0,
-        5,
-    )?;
-    refused(
-        &rt,
-        &[0x54, 0x57, 0x4c, 0, 1, 1, 200],
-        5,
-        Layer::InHeader,
-        0,
-        6,
-    )?;
+    refused(&rt, &[0, 0, 0, 0, 0, 0], header(1, 6))?;
+    refused(&rt, &[0, 0, 0, 0, 0, 0, 200], header(2, 0))?;
+    refused(&rt, &[0x54, 0x57, 0x4c, 9, 9, 0, 200], header(3, 3))?;
+    refused(&rt, &[0x54, 0x57, 0x4c, 0, 1, 0, 200], header(4, 5))?;
+    refused(&rt, &[0x54, 0x57, 0x4c, 0, 1, 1, 200], header(5, 6))?;
     // The first bad cable counts, and both ends of a cable on taken ports are refused at the first.
-    refused_with(&rt, 8, 2, 10, Layer::InCable, 1, 12)
+    refused_with(&rt, 8, 2, cable(10, 1, 12))
 }
 
 // A file of 64 nodes and 128 cables: nodes 2i and 2i + 1 are joined port by port.
-fn write_pairs(bytes: &mut [u8])
-    requires { length bytes.old ≡ 519 }
-{
-    bytes[0] = 0x54;
-    bytes[1] = 0x57;
-    bytes[2] = 0x4c;
-    bytes[4] = 1;
-    bytes[5] = 64;
-    bytes[6] = 128;
-    for i in 0..128u8 {
-        let at = 7 + 4 * i as usize;
-        bytes[at] = i / 4 * 2 + 1;
-        bytes[at + 1] = i % 4;
-        bytes[at + 2] = i / 4 * 2;
-        bytes[at + 3] = i % 4;
+fn pairs() -> [u8; 519] {
+    let mut bytes = [0; 519];
+    bytes[..7].copy_from_slice(&[0x54, 0x57, 0x4c, 0, 1, 64, 128]);
+    for (i, cable) in (0..128u8).zip(bytes[7..].chunks_exact_mut(4)) {
+        cable.copy_from_slice(&[i / 4 * 2 + 1, i % 4, i / 4 * 2, i % 4]);
     }
+    bytes
 }
 
 #[test]
 fn accepts_64_nodes_with_128_cables(rt: HostRuntime) {
-    let mut bytes = [0; 519];
-    write_pairs(&mut bytes);
     let mut list = CableList::new();
-    assert!(rt; list.read(&bytes).is_ok());
+    assert!(rt; list.read(&pairs()).is_ok());
     assert_eq!(rt; list.node_count(), 64);
     assert_eq!(rt; cable_count(&list), 128);
     for i in 0..32u8 {
@@ -255,10 +230,13 @@ fn meshes(rt: HostRuntime) -> Result<(), Fail> {
         let Err(fault) = Mesh::new(columns, rows) else {
             return Err(Fail::new("a mesh with a bad side is accepted"));
         };
-        assert_eq!(rt; fault.number(), 11);
-        assert_eq!(rt; fault.layer(), Layer::InWall);
-        assert_eq!(rt; fault.index(), 0);
-        assert_eq!(rt; fault.place(), 0);
+        let told = Told {
+            number: 11,
+            layer: Layer::InWall,
+            index: 0,
+            place: 0,
+        };
+        assert_eq!(rt; Told::from(fault), told);
     }
     assert!(rt; Mesh::new(8, 8).is_ok());
     assert!(rt; Mesh::new(1, 1).is_ok());

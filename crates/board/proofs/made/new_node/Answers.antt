@@ -5,4 +5,4 @@ use Rattle.board.proofs.made.new_node.Goals as goal
 
 pub returns : goal.returns
 unfolding fresh
-returns c count h = rw (c.cables-made.ensures, empty_row count h) refl
+returns c count h = rw (c.cables.ensures, empty_row count h) refl

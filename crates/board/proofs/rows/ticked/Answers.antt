@@ -1,18 +1,17 @@
-use Rattle.std.proofs.Common.{sym, refl, ap, ◌∙◌}
+use Rattle.std.proofs.Common.{◌≡◌, sym, ap, ◌∙◌, arith}
 use Rattle.rules.specs.Slot.{tick_mode}
-use Rattle.board.proofs.Slots.{tick_last, tick_more}
+use Rattle.board.proofs.Slots.{tick_last, tick_more, tick_other}
 use Rattle.board.proofs.rows.ticked.Goals as goal
 
-pub returns-in-New : goal.returns-in-New
-unfolding tick_mode
-returns-in-New c = rw c.in-New.is refl
+pub returns-in-Recovering : goal.returns-in-Recovering
+returns-in-Recovering c = sym (ap tick_mode c.in-Recovering.is ∙ tick_last c.in-Recovering.root c.in-Recovering.left c.if-left-le1.true)
 
-pub returns-then-left-le1 : goal.returns-then-left-le1
-returns-then-left-le1 c = sym (ap tick_mode c.in-Recovering.is ∙ tick_last c.in-Recovering.root c.in-Recovering.left c.if-left-le1.true)
+pub returns-in-Recovering-2 : goal.returns-in-Recovering-2
+returns-in-Recovering-2 c =
+    let first = c.in-Recovering.is in
+    let second = c.in-Recovering-2.is in
+    let same : c.in-Recovering.left ≡ c.in-Recovering-2.left = cc in
+    sym (ap tick_mode second ∙ tick_more c.in-Recovering-2.root c.in-Recovering-2.left (omega (arith, c.if-left-le1.false, same)))
 
-pub returns-else-left-le1 : goal.returns-else-left-le1
-returns-else-left-le1 c = sym (ap tick_mode c.in-Recovering.is ∙ tick_more c.in-Recovering.root c.in-Recovering.left c.if-left-le1.false)
-
-pub returns-in-Serving : goal.returns-in-Serving
-unfolding tick_mode
-returns-in-Serving c = rw c.in-Serving.is refl
+pub returns-in_default : goal.returns-in_default
+returns-in_default c = tick_other c.args.mode c.in_default.not-Recovering

@@ -1,14 +1,15 @@
-use Rattle.std.proofs.Common.{◌<◌, sym, ◌∙◌, subst}
+use Rattle.std.proofs.Common.{◌∙◌, arith, rules, tests}
+use Rattle.std.proofs.lemmas.Result.{IfOk-weaker}
+use Rattle.std.proofs.lemmas.Iterator.{items_from_collect, YieldsList-from_range}
+use Rattle.std.proofs.lemmas.Iterator.Consumers.{YieldsList-from_filter}
 use Rattle.wall.specs.View.{state_of}
-use Rattle.play.proofs.Gathered.{no_hands, more_hands}
+use Rattle.play.proofs.Gathered.{up_told, hands_told}
 use Rattle.play.proofs.questions.hands.Goals as goal
 
-pub loop-node-init : goal.loop-node-init
-loop-node-init g c = c.new-nodes.ensures.items ∙ sym (no_hands _)
-
-pub loop-node-preserved : goal.loop-node-preserved
-loop-node-preserved g c =
+pub returns : goal.returns
+returns g c =
     let layout = g.W.Wiring.layout c.args.wall.now.wiring in
-    more_hands layout (state_of layout c.args.wall.now.core).nodes c.loop-node.node c.is_hand_up.result c.raised.result _ _
-    (subst (λ n. c.loop-node.node < n) c.node_count-node-end.ensures c.loop-node-test.true)
-    c.is_hand_up.ensures c.raised.ensures c.loop-node.invariant c.in_ok-add.ensures
+    let nodes = (state_of layout c.args.wall.now.core).nodes in
+    IfOk-weaker c.collect.result _ _ (λ v e. e ∙ hands_told layout nodes _ c.node_count.ensures)
+    (items_from_collect _ c.collect.ensures.ran
+    (YieldsList-from_filter _ (up_told layout nodes) (YieldsList-from_range 0 _ c.node_count.result c.filter.ensures.source (omega arith)) c.filter.ensures.closure (λ x r q k. search (rules, tests))))

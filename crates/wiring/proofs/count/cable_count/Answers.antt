@@ -1,11 +1,25 @@
-use Rattle.std.proofs.Common.{arith}
-use Rattle.wiring.proofs.Listing.{below_none, below_more}
+use Rattle.std.proofs.Common.{ℕ, length, ap, ◌∙◌, arith, rules, tests}
+use Rattle.std.proofs.lemmas.Iterator.{YieldsList-from_range, YieldsList-from_map}
+use Rattle.std.proofs.lemmas.Iterator.Adapters.{fits_from_length, at_most_from_yields_List}
+use Rattle.std.proofs.lemmas.Iterator.Consumers.{sum_from_yields_List}
+use Rattle.std.proofs.lemmas.List.FromFn.{length-range_with_len}
+use Rattle.wiring.specs.Listing.{node_cables, cables_below}
+use Rattle.wiring.proofs.Listing.{nodes_counted}
 use Rattle.wiring.proofs.count.cable_count.Goals as goal
 
-pub loop-node-init : goal.loop-node-init
-loop-node-init g c = (below_none (g.W.Wiring.layout c.args.wiring.now), omega arith)
+pub sum-requires-clause-fits : goal.sum-requires-clause-fits
+sum-requires-clause-fits g c =
+    let n = c.node_count.result in
+    fits_from_length _ _ 256 65536
+    (at_most_from_yields_List (YieldsList-from_range 0 n n c.map.ensures.source (omega arith)) (omega (arith, length-range_with_len 0 n, c.node_count.type_inv)))
+    c.map.ensures.closure (omega arith) (λ x r q k. search (rules, tests))
 
-pub loop-node-preserved : goal.loop-node-preserved
-loop-node-preserved g c =
-    let more = below_more (g.W.Wiring.layout c.args.wiring.now) c.loop-node.node in
-    (omega (arith, c.begin_at-count.ensures.value), omega arith)
+pub returns : goal.returns
+returns g c =
+    let l = g.W.Wiring.layout c.args.wiring.now in
+    let n = c.node_count.result in
+    let cables : ℕ → ℕ = λ k. length (node_cables l k) in
+    sum_from_yields_List c.map.result c.sum.result c.sum.ensures.ran
+    (YieldsList-from_map _ cables (YieldsList-from_range 0 n n c.map.ensures.source (omega arith)) c.map.ensures.closure (λ x r q k. search (rules, tests)))
+    ∙ nodes_counted l n
+    ∙ ap (λ k. length (cables_below l k)) c.node_count.ensures

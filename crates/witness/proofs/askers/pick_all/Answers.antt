@@ -1,6 +1,5 @@
-use Rattle.std.proofs.Common.{◌≡◌, ◌<◌, false, [], ◌∷◌, ◌++◌, length, take, refl, arith, rules}
+use Rattle.std.proofs.Common.{◌≡◌, ◌<◌, [], ◌∷◌, ◌++◌, length, take, refl, arith, rules}
 use Rattle.std.proofs.lemmas.List.{take_more, take_all, length-take-le}
-use Rattle.chooser.specs.PortSets.{ports_where}
 use Rattle.tray.proofs.Filled.{puts_none, puts_more, puts_fitting, free_after}
 use Rattle.witness.proofs.Asked.{asked_more, asked_length}
 use Rattle.witness.proofs.askers.pick_all.Goals as goal
@@ -18,7 +17,7 @@ loop-offer-preserved g c =
     rw (length-take-le i offers (omega arith)) at (asked_length _ (take i offers) h.0 _ _ h.1) in
     let left = free_after h.2 in (
       h.0 ++ c.pick-port.result ∷ [],
-      rw (take_more offers i (ports_where (λ _. false)) below) (asked_more _ (take i offers) h.0 _ _ _ _ _ h.1 c.pick-port.ensures),
+      rw (take_more offers i c.offer-item.result below, ← c.offer-item.is) (asked_more _ (take i offers) h.0 _ _ _ _ _ h.1 c.pick-port.ensures),
       puts_more h.2 (puts_fitting c.put.ensures (omega arith)),
     )
 

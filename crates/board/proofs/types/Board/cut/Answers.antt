@@ -1,8 +1,7 @@
-use Rattle.std.proofs.Common.{refl, ap, ◌∙◌, arith}
+use Rattle.std.proofs.Common.{sym, refl, ◌∙◌}
 use Rattle.rules.specs.Calls.{with_nodes}
 use Rattle.rules.proofs.CallCases.{cut_outside, cut_no_port, cut_no_cable, cut_cable, cut_does}
-use Rattle.flood.proofs.Arrays.{far_read}
-use Rattle.flood.specs.View.{wired, end_view}
+use Rattle.flood.specs.View.{wired}
 use Rattle.board.specs.View.{board_state}
 use Rattle.board.proofs.types.Board.cut.Goals as goal
 
@@ -12,18 +11,18 @@ returns-then-node-self c = record { rule = rw (cut_outside (wired c.args.self.no
 pub returns-then-port-ge4 : goal.returns-then-port-ge4
 returns-then-port-ge4 c = record { rule = rw (cut_no_port (wired c.args.self.now.count c.args.ends.now.at) (board_state c.args.self.now) c.args.node c.args.port c.if-node-self.false c.if-port-ge4.true) (refl, refl); count = refl }
 
-pub returns-in-Nowhere : goal.returns-in-Nowhere
-returns-in-Nowhere c =
-    let none = far_read c.args.ends.now.at c.args.node c.args.port (omega (arith, c.args.self.now.count_few)) c.if-port-ge4.false ∙ ap end_view c.in-Nowhere.is in
+pub returns-in_default : goal.returns-in_default
+returns-in_default c =
+    let none = sym c.far_end.ensures ∙ c.in_default.is in
     record {
       rule = rw (cut_no_cable (wired c.args.self.now.count c.args.ends.now.at) (board_state c.args.self.now) c.args.node c.args.port c.if-node-self.false c.if-port-ge4.false none) (refl, refl);
       count = refl;
     }
 
-pub returns-in-To : goal.returns-in-To
+pub returns : goal.returns
 unfolding with_nodes
-returns-in-To c =
-    let some = far_read c.args.ends.now.at c.args.node c.args.port (omega (arith, c.args.self.now.count_few)) c.if-port-ge4.false ∙ ap end_view c.in-To.is in
+returns c =
+    let some = sym c.far_end.ensures ∙ c.in-Some.is in
     let w = wired c.args.self.now.count c.args.ends.now.at in
     let s = board_state c.args.self.now in
     record {

@@ -1,23 +1,13 @@
-use Rattle.std.proofs.Common.{◌≡◌, ℕ, ◌<◌, List, [], length, get_or, refl, ◌∙◌, arith, length-set}
+use Rattle.std.proofs.Common.{List, get_or, refl, ap, ◌∙◌}
 use Rattle.rules.specs.declared.Mark.{Mark}
 use Rattle.rules.specs.declared.Mark.TheVariants.{Unmarked}
-use Rattle.rules.proofs.Views.{below_written, rest_written}
-use Rattle.board.proofs.Boards.{marks_gathered, unmarked}
+use Rattle.board.specs.declared.types.Node.{Node}
+use Rattle.board.proofs.Boards.{marks_gathered}
 use Rattle.board.proofs.Records.{no_node}
 use Rattle.board.proofs.types.Board.own_marks.Goals as goal
 
-pub loop-node-init : goal.loop-node-init
-loop-node-init c = (refl, (λ k h. absurd (omega arith)), λ k h p. unmarked k p)
-
-pub loop-node-preserved : goal.loop-node-preserved
-loop-node-preserved c =
-    let l : c.loop-node.node < length c.loop-node.marks = omega (arith, c.loop-node.invariant.0, c.args.self.now.count_few) in (
-      length-set c.loop-node.marks c.loop-node.node _ ∙ c.loop-node.invariant.0,
-      below_written [] c.loop-node.marks c.loop-node.node _ (λ (k : ℕ) (x : List Mark). (p : ℕ) → get_or x p Unmarked ≡ get_or (get_or c.args.self.now.nodes k no_node).marks p Unmarked) l c.loop-node.invariant.1 (λ p. refl),
-      rest_written [] c.loop-node.marks c.loop-node.node _ (λ (k : ℕ) (x : List Mark). (p : ℕ) → get_or x p Unmarked ≡ Unmarked) c.loop-node.invariant.2,
-    )
-
 pub returns : goal.returns
 returns c =
-    marks_gathered c.args.self.now c.loop-node.marks (λ node p. get_or node.marks p Unmarked) (λ p. refl)
-    (λ k h. c.loop-node.invariant.1 k (omega arith)) (λ k h. c.loop-node.invariant.2 k (omega (arith, c.loop-node.auto.node-end)))
+    marks_gathered c.args.self.now c.each.result (λ node p. get_or node.marks p Unmarked) (λ p. refl)
+    (λ k h p. let told = c.each.ensures.below k no_node h in ap (λ (xs : List Mark). get_or xs p Unmarked) (told.says.met ∙ ap (λ (n : Node). n.marks) told.shows))
+    c.each.ensures.past

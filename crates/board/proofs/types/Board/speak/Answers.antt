@@ -13,6 +13,8 @@ returns c =
     let is = broadcast_is w nodes c.args.owner _ _ _ c.own_marks.ensures c.deaf_to-deaf.ensures c.broadcast-flood.ensures.value in
     record {
       cycles = ap (λ (x : Spread). x.cycles) is;
-      nodes = c.inform.ensures.nodes ∙ heard_count c.args.self.now.count c.args.ends.now.at nodes c.args.owner _ ∙ ap (λ (x : Spread). heard w nodes c.args.owner x.cells) is;
-      count = c.inform.ensures.count;
+      board = record {
+        nodes = c.inform.ensures.nodes ∙ heard_count c.args.self.now.count c.args.ends.now.at nodes c.args.owner _ ∙ ap (λ (x : Spread). heard w nodes c.args.owner x.cells) is;
+        count = c.inform.ensures.count;
+      };
     }

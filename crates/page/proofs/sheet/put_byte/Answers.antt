@@ -1,5 +1,0 @@
-use Rattle.page.proofs.Writing.{writes_fitting}
-use Rattle.page.proofs.sheet.put_byte.Goals as goal
-
-pub returns : goal.returns
-returns c = writes_fitting c.put.ensures c.requires
