@@ -1,7 +1,4 @@
 -- Whole boards: what a loop over all records, or one that gathers from them, comes to.
-use Rattle.std.specs.Prelude.{unwrap_or, option_map, option_copied}
-use Rattle.std.specs.Option.{option_flatten}
-use Rattle.std.proofs.Common.{Bor, Some, None, Option}
 use Rattle.std.proofs.Common.{◌≡◌, ℕ, zero, suc, ◌<◌, ◌≤◌, ◌⊎◌, List, [], ◌∷◌, map, length, get_or, take, replicate, refl, sym, ap, ◌∙◌, inl, inr, arith}
 use mathlib.Core.Path.{fun_ext}
 use lib.ListN
@@ -57,39 +54,40 @@ other_default [] k d e h = absurd (omega arith)
 other_default (x ∷ xs) zero d e h = refl
 other_default (x ∷ xs) (suc k) d e h = other_default xs k d e (omega arith)
 
-unmarked : (p : ℕ) → get_or (replicate 4 Unmarked) p Unmarked ≡ Unmarked
-unmarked p = elim (cases_lt p 4) [ inl h ↦ get_or-replicate 4 p Unmarked Unmarked h | inr h ↦ get_or_past (replicate 4 Unmarked) p Unmarked h ]
+row_unmarked : (p : ℕ) → get_or (replicate 4 Unmarked) p Unmarked ≡ Unmarked
+row_unmarked p = elim (cases_lt p 4) [ inl h ↦ get_or-replicate 4 p Unmarked Unmarked h | inr h ↦ get_or_past (replicate 4 Unmarked) p Unmarked h ]
 
 -- A row of marks past the end of the array has none, whatever such a read gives.
-row_of : (marks : List (List Mark)) (n p : ℕ) → get_or (get_or marks n []) p Unmarked ≡ get_or (get_or marks n (replicate 4 Unmarked)) p Unmarked
+pub row_of : (marks : List (List Mark)) (n p : ℕ) → get_or (get_or marks n []) p Unmarked ≡ get_or (get_or marks n (replicate 4 Unmarked)) p Unmarked
 row_of marks n p = go (cases_lt n (length marks))
   where
     go : (n < length marks) ⊎ (length marks ≤ n) → get_or (get_or marks n []) p Unmarked ≡ get_or (get_or marks n (replicate 4 Unmarked)) p Unmarked
     go (inl h) = ap (λ (xs : List Mark). get_or xs p Unmarked) (other_default marks n [] (replicate 4 Unmarked) h)
     go (inr h) = ap (λ (xs : List Mark). get_or xs p Unmarked) (get_or_past marks n [] h)
-        ∙ sym (ap (λ (xs : List Mark). get_or xs p Unmarked) (get_or_past marks n (replicate 4 Unmarked) h) ∙ unmarked p)
+        ∙ sym (ap (λ (xs : List Mark). get_or xs p Unmarked) (get_or_past marks n (replicate 4 Unmarked) h) ∙ row_unmarked p)
+
+-- A row without a mark, read past the end or not.
+pub no_marks : (marks : List (List Mark)) (k : ℕ) → get_or marks k (replicate 4 Unmarked) ≡ replicate 4 Unmarked → (p : ℕ) → get_or (get_or marks k []) p Unmarked ≡ Unmarked
+no_marks marks k none p = row_of marks k p ∙ ap (λ (xs : List Mark). get_or xs p Unmarked) none ∙ row_unmarked p
+
+-- Nothing is marked in the array that such marks start from.
+pub unmarked : (k p : ℕ) → get_or (get_or (replicate 64 (replicate 4 Unmarked)) k []) p Unmarked ≡ Unmarked
+unmarked k p = no_marks (replicate 64 (replicate 4 Unmarked)) k (all_none (replicate 4 Unmarked) k) p
 
 -- An array of marks gathered from the records, and unmarked past the last node.
 pub marks_gathered : (b : Board) (marks : List (List Mark)) (f : rules.Node → ℕ → Mark) → ((p : ℕ) → f rules.absent p ≡ Unmarked) →
-    ((k : ℕ) → k < b.count → (p : ℕ) → get_or (get_or marks k (replicate 4 Unmarked)) p Unmarked ≡ f (node_view b.count (get_or b.nodes k no_node)) p) →
-    ((k : ℕ) → b.count ≤ k → get_or marks k (replicate 4 Unmarked) ≡ replicate 4 Unmarked) →
+    ((k : ℕ) → k < b.count → (p : ℕ) → get_or (get_or marks k []) p Unmarked ≡ f (node_view b.count (get_or b.nodes k no_node)) p) →
+    ((k : ℕ) → b.count ≤ k → (p : ℕ) → get_or (get_or marks k []) p Unmarked ≡ Unmarked) →
     marks_view marks ≡ (λ n p. f (rules.node_of (nodes_view b) n) p)
-marks_gathered b marks f none below past = fun_ext (λ n. fun_ext (λ p. row_of marks n p ∙ go n p (cases_lt n b.count)))
+marks_gathered b marks f none below past = fun_ext (λ n. fun_ext (λ p. go n p (cases_lt n b.count)))
   where
-    go : (n p : ℕ) → (n < b.count) ⊎ (b.count ≤ n) → get_or (get_or marks n (replicate 4 Unmarked)) p Unmarked ≡ f (rules.node_of (nodes_view b) n) p
+    go : (n p : ℕ) → (n < b.count) ⊎ (b.count ≤ n) → get_or (get_or marks n []) p Unmarked ≡ f (rules.node_of (nodes_view b) n) p
     go n p (inl h) = below n h p ∙ ap (λ (x : rules.Node). f x p) (sym (node_read b n h))
-    go n p (inr h) = ap (λ (xs : List Mark). get_or xs p Unmarked) (past n h) ∙ unmarked p ∙ sym (none p) ∙ ap (λ (x : rules.Node). f x p) (sym (node_past b n h))
+    go n p (inr h) = past n h p ∙ sym (none p) ∙ ap (λ (x : rules.Node). f x p) (sym (node_past b n h))
 
--- An element read by `get`, with a default or flattened.
-pub got_copied : {X : Type 0} (xs : List X) (n : ℕ) (got : Option (Bor X)) (d e : X) → n < length xs →
-    ((z : X) → unwrap_or (option_map (λ (x : Bor X). x.now) got) z ≡ get_or xs n z) → unwrap_or (option_copied got) d ≡ get_or xs n e
-got_copied xs n None d e l same = same d ∙ other_default xs n d e l
-got_copied xs n (Some x) d e l same = same d ∙ other_default xs n d e l
-
-pub got_default : {X : Type 0} (xs : List X) (n : ℕ) (got : Option (Bor X)) (copied : Option X) (result d e : X) → n < length xs →
-    ((z : X) → unwrap_or (option_map (λ (x : Bor X). x.now) got) z ≡ get_or xs n z) → copied ≡ option_copied got → result ≡ unwrap_or copied d → result ≡ get_or xs n e
-got_default {X = X} xs n got copied result d e l same is told = told ∙ ap (λ (o : Option X). unwrap_or o d) is ∙ got_copied xs n got d e l same
-
-pub flat : {X : Type 0} (o : Option (Option X)) → option_flatten o ≡ unwrap_or o None
-flat None = refl
-flat (Some x) = refl
+-- Two lists of one length that read alike at one default read alike at any.
+pub same_at : {X : Type 0} (xs ys : List X) (k : ℕ) (d e : X) → length ys ≡ length xs → get_or xs k e ≡ get_or ys k e → get_or xs k d ≡ get_or ys k d
+same_at xs ys k d e long same = elim (cases_lt k (length xs)) [
+  | inl h ↦ other_default xs k d e h ∙ same ∙ sym (other_default ys k d e (omega (arith, long, h)))
+  | inr h ↦ get_or_past xs k d h ∙ sym (get_or_past ys k d (omega (arith, long, h)))
+]

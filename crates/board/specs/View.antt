@@ -22,6 +22,10 @@ node_view count n = record {
   row = map entry_view (take count n.row);
 }
 
+-- A record with its hand up, and nothing else changed.
+abbrev pub with_hand_up : Node → Node
+with_hand_up n = record { mode = n.mode; hand = true; live = n.live; marks = n.marks; row = n.row }
+
 -- The nodes of a wall of so many nodes, from the array of all records.
 unfoldable pub nodes_at : ℕ → List Node → List rules.Node
 nodes_at count nodes = map (node_view count) (take count nodes)

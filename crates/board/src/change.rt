@@ -1,16 +1,23 @@
 //! Changes of one node record at a time: cuts and raised hands.
-ghost use Rattle.std.specs.Prelude.{◌≡◌, ◌<◌, ◌≤◌, [], length, None};
+ghost use Rattle.std.specs.Prelude.{◌≡◌, ◌==◌, ◌<◌, ◌≤◌, ◌&&◌, not, false, [], length, None, slice_index_or};
 ghost use Rattle.rules.specs.declared.Refusal.TheVariants.{AlreadyCut};
 ghost use Rattle.rules.specs.State.{live_of};
 ghost use Rattle.rules.specs.Calls.{refuse_if, is_dead, changed, raised, cut_end, cut_refused, after_cut, hand_refused, after_hand};
 ghost use Rattle.flood.specs.View.{wired};
 ghost use Rattle.board.specs.Settled.{Settled};
-ghost use Rattle.board.specs.View.{Becomes, nodes_view, board_state};
+ghost use Rattle.board.specs.View.{with_hand_up, Becomes, nodes_view, board_state};
 
-use crate::types::Board;
+use crate::types::{Board, Node};
 use flood::Ends;
 use rules::Refusal;
 use std::array;
+
+// A record's hand goes up, and nothing else of it changes.
+fn hand_up(held: &mut Node)
+    ensures { held.new ≡ with_hand_up held.old }
+{
+    held.hand = true;
+}
 
 impl Board {
     // One hand up, and nothing else changed.
@@ -18,7 +25,7 @@ impl Board {
         requires { node < self.old.count }
         ensures { Becomes self.old self.new (changed raised node (nodes_view self.old)) }
     {
-        self.nodes[node as usize].hand = true;
+        hand_up(&mut self.nodes[node as usize]);
     }
 
     // One end of a cut cable: the cable is dead there and the hand goes up.
@@ -27,9 +34,24 @@ impl Board {
         ensures { Becomes self.old self.new (changed (cut_end port) node (nodes_view self.old)) }
     {
         let held = &mut self.nodes[node as usize];
+        hand_up(held);
         let live = held.live;
-        held.live = array::from_fn(|other| live[other] & (other != port as usize));
-        held.hand = true;
+        held.live = array::from_fn(
+            |other| -> bool
+                requires { other < 4 }
+                ensures { result ≡ (slice_index_or live other false && not (other == port)) }
+            { live[other] & (other != port as usize) },
+        );
+    }
+
+    // Whether a port's cable is dead, or never was.
+    #[tactic(auto, using(crate::proofs::Records::live_read))]
+    fn is_dead(&self, node: u8, port: u8) -> bool
+        requires { (node < self.now.count) × (port < 4) }
+        ensures { result ≡ is_dead (live_of (nodes_view self.now) node port) }
+    {
+        let live = self.nodes[node as usize].live[port as usize];
+        !live
     }
 
     // Cuts the cable between two ports, unless it is dead already.
@@ -39,8 +61,7 @@ impl Board {
         // count by itself, since callers cite it beside the other clauses.
         ensures count { self.new.count ≡ self.old.count }
     {
-        let live = self.nodes[node as usize].live[port as usize];
-        if !live {
+        if self.is_dead(node, port) {
             return Err(Refusal::AlreadyCut);
         }
         self.sever(node, port);

@@ -24,7 +24,12 @@ fn cables(ends: &Ends, node: u8) -> [bool; 4]
     requires { node < 64 }
     ensures { result ≡ ports_where (λ p. is_some (far_in ends.now.at node p)) }
 {
-    array::from_fn(|port| ends.far_end(node, port as u8).is_some())
+    array::from_fn(
+        |port| -> bool
+            requires { port < 4 }
+            ensures { result ≡ is_some (far_in ends.entry.now.at node port) }
+        { ends.far_end(node, port as u8).is_some() },
+    )
 }
 
 fn new_node(ends: &Ends, node: u8) -> Node
@@ -64,21 +69,22 @@ impl Board {
 // nodes that its wiring has.
 impl Board {
     /// A node's record, by what it stands for in a wall of so many nodes.
+    #[tactic(auto, using(crate::proofs::Records::read_at))]
     pub fn node(&self, node: u8) -> Node
         ensures { (count : ℕ) → node < count → count ≤ 64 → node_view count result ≡ node_of (nodes_at count self.now.nodes) node }
     {
-        self.nodes.get(node as usize).copied().unwrap_or(NODE)
+        match self.nodes.get(node as usize) {
+            Some(held) => *held,
+            None => NODE,
+        }
     }
 
     /// A node's entry for a destination.
+    #[tactic(auto, using(crate::proofs::Records::entry_at))]
     pub fn entry(&self, node: u8, destination: u8) -> Option<Way>
         ensures { (count : ℕ) → node < count → destination < count → count ≤ 64 → entry_view result ≡ entry_of (nodes_at count self.now.nodes) node destination }
     {
-        self.nodes
-            .get(node as usize)?
-            .row
-            .get(destination as usize)
-            .copied()
-            .flatten()
+        let held = self.nodes.get(node as usize)?;
+        *held.row.get(destination as usize)?
     }
 }

@@ -1,7 +1,7 @@
 //! One node's record in a slot: its marks for the broadcast, and what the broadcast changes in it.
 ghost use Rattle.std.specs.Prelude.{◌≡◌, ℕ, ◌<◌, ◌≤◌};
 ghost use Rattle.rules.specs.Root.{order, root_mark};
-ghost use Rattle.rules.specs.Slot.{act_of, informed, tick_mode};
+ghost use Rattle.rules.specs.Slot.{act_of, informed, tick, tick_mode};
 ghost use Rattle.flood.specs.View.{wired, cell_view, cells_view};
 ghost use Rattle.board.specs.View.{node_view, nodes_view, is_joined, rooted_node};
 
@@ -94,6 +94,7 @@ pub(crate) fn enlisted_record(
 }
 
 // What a broadcast changes in a node's record: an entry for its owner, where a flag came.
+#[tactic(auto, using(crate::proofs::Slots::row_written, crate::proofs::Slots::informed_other), unfolding(rules::specs::Slot::informed))]
 pub(crate) fn inform_record(held: &mut Node, owner: u8, cell: Cell)
     requires { owner < 64 }
     ensures { (count : ℕ) → owner < count → node_view count held.new ≡ informed (node_view count held.old) owner (cell_view cell) }
@@ -104,7 +105,7 @@ pub(crate) fn inform_record(held: &mut Node, owner: u8, cell: Cell)
 }
 
 // A mode with one slot fewer left.
-pub(crate) fn ticked(mode: Mode) -> Mode
+fn ticked(mode: Mode) -> Mode
     ensures { result ≡ tick_mode mode }
 {
     match mode {
@@ -115,4 +116,11 @@ pub(crate) fn ticked(mode: Mode) -> Mode
         },
         other => other,
     }
+}
+
+// A node's record at the end of a slot.
+pub(crate) fn tick_record(held: &mut Node)
+    ensures { (count : ℕ) → node_view count held.new ≡ tick (node_view count held.old) }
+{
+    held.mode = ticked(held.mode);
 }

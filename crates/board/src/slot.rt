@@ -12,10 +12,17 @@ ghost use Rattle.board.specs.Begun.{begun};
 ghost use Rattle.board.specs.declared.types.Node.{Node};
 ghost use Rattle.board.specs.View.{Becomes, nodes_view, rooted_node};
 
-use crate::rows::{act, enlisted_record, inform_record, ticked};
+use crate::rows::{act, enlisted_record, inform_record, tick_record};
 use crate::types::{Board, Node};
 use flood::{Cell, Ends, Marks, Wave, broadcast};
 use rules::{Act, Mark, SlotAnswer};
+
+// What a slot is answered.
+fn answer(owner: u8, act: Act, cycles: u8) -> SlotAnswer
+    ensures { result ≡ record { owner = owner; act = act; cycles = cycles } }
+{
+    SlotAnswer { owner, act, cycles }
+}
 
 impl Board {
     // What a question has to say of each node's record, and `none` past the last node.
@@ -75,10 +82,12 @@ impl Board {
 
     /// Every recovery is one slot nearer its end; at its end the nodes serve.
     pub fn tick(&mut self)
-        ensures { Becomes self.old self.new (map tick (nodes_view self.old)) }
+        ensures board { Becomes self.old self.new (map tick (nodes_view self.old)) }
+        // What stands past the count is left over, and stays.
+        ensures past { (k : ℕ) (d : Node) → self.old.count ≤ k → slice_index_or self.new.nodes k d ≡ slice_index_or self.old.nodes k d }
     {
-        for held in self.nodes.iter_mut() {
-            held.mode = ticked(held.mode);
+        for node in 0..self.count {
+            tick_record(&mut self.nodes[node as usize]);
         }
     }
 
@@ -96,10 +105,12 @@ impl Board {
     // Everyone that the owner's flag reached has an entry for the owner.
     fn inform(&mut self, owner: u8, cells: &[Cell; 64])
         requires { owner < self.old.count }
-        ensures { Becomes self.old self.new (heard (wired self.old.count []) (nodes_view self.old) owner (cells_view self.old.count cells.now)) }
+        ensures board { Becomes self.old self.new (heard (wired self.old.count []) (nodes_view self.old) owner (cells_view self.old.count cells.now)) }
+        // What stands past the count is left over, and stays.
+        ensures past { (k : ℕ) (d : Node) → self.old.count ≤ k → slice_index_or self.new.nodes k d ≡ slice_index_or self.old.nodes k d }
     {
-        for (node, held) in self.nodes.iter_mut().enumerate() {
-            inform_record(held, owner, cells[node]);
+        for node in 0..self.count {
+            inform_record(&mut self.nodes[node as usize], owner, cells[node as usize]);
         }
     }
 
@@ -151,11 +162,7 @@ impl Board {
         ensures count { self.new.count ≡ self.old.count }
     {
         if owner >= self.count {
-            return SlotAnswer {
-                owner,
-                act: Act::Silent,
-                cycles: 0,
-            };
+            return answer(owner, Act::Silent, 0);
         }
         let mode = self.nodes[owner as usize].mode;
         let hand = self.nodes[owner as usize].hand;
@@ -168,6 +175,6 @@ impl Board {
             }
             Act::Member => self.speak(ends, owner),
         };
-        SlotAnswer { owner, act, cycles }
+        answer(owner, act, cycles)
     }
 }

@@ -103,6 +103,7 @@ impl PortSet {
     /// ```
     /// assert!(rt; !sides.is_empty() && sides.len() == 2 && sides.bits() == 10);
     /// ```
+    #[tactic(auto, using(crate::proofs::PortSets::how_many_counted))]
     pub fn len(self) -> u8
         ensures { result ≡ how_many self }
     {

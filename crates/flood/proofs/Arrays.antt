@@ -69,6 +69,13 @@ module _ (layout : Layout) (marks : rules.Marks) (owner c : ℕ) (cells : List r
   unfolding rules.next_cell
   next_missed e h = rw (e, h, rules.next_cell)
 
+  -- The four answers together are the set of ports that get a flag.
+  pub flags_are : (a b d e : Bool) → a ≡ rules.gets layout marks owner c cells n 0 → b ≡ rules.gets layout marks owner c cells n 1 →
+      d ≡ rules.gets layout marks owner c cells n 2 → e ≡ rules.gets layout marks owner c cells n 3 →
+      a ∷ b ∷ d ∷ e ∷ [] ≡ ports_where (rules.gets layout marks owner c cells n)
+  unfolding ports_where
+  flags_are a b d e p q r s = rw (p, q, r, s) refl
+
 -- A list of four, by its elements.
 pub four_made : {X : Type 0} (z : X) (f : ℕ → X) (xs : List X) → length xs ≡ 4 → ((k : ℕ) → k < 4 → get_or xs k z ≡ f k) → xs ≡ f 0 ∷ f 1 ∷ f 2 ∷ f 3 ∷ []
 four_made z f [] long each = absurd (omega arith)

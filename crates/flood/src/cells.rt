@@ -1,5 +1,6 @@
 //! One node in one cycle: which ports get a flag, and what it then writes.
 ghost use Rattle.std.specs.Prelude.{◌≡◌, ◌<◌};
+ghost use Rattle.rules.specs.Ports.{ports_where};
 ghost use Rattle.rules.specs.Flood.{all_up, passes_on, sends, gets, next_cell};
 ghost use Rattle.flood.specs.View.{wired, marks_view, cell_view, cells_view};
 
@@ -84,7 +85,25 @@ impl Moment<'_> {
         }
     }
 
+    // The ports of a node that get a flag in the next cycle.
+    fn flags(&self, node: u8) -> [bool; 4]
+        requires { node < 64 }
+        ensures { result ≡ ports_where (gets (wired self.now.wave.now.count self.now.wave.now.ends.at) (marks_view self.now.wave.now.marks) self.now.wave.now.owner self.now.cycle (cells_view self.now.wave.now.count self.now.cells.now) node) }
+    {
+        array::from_fn(
+            |port|
+                requires { (node < 64) × (port < 4) }
+            {
+                self.got(Place {
+                    node,
+                    port: port as u8,
+                })
+            },
+        )
+    }
+
     /// A node's cell after the next cycle. It ignores what comes after its first flag.
+    #[tactic(auto, using(crate::proofs::Arrays::cell_read), unfolding(rules::specs::Flood::next_cell, rules::specs::Ports::some_port))]
     pub(crate) fn heard(&self, node: u8) -> Cell
         requires { node < self.now.wave.now.count }
         ensures { cell_view result ≡ next_cell (wired self.now.wave.now.count self.now.wave.now.ends.at) (marks_view self.now.wave.now.marks) self.now.wave.now.owner self.now.cycle (cells_view self.now.wave.now.count self.now.cells.now) node }
@@ -92,16 +111,7 @@ impl Moment<'_> {
         let cell = self.cells[node as usize];
         match cell {
             Cell::Waiting => {
-                let ports: [bool; 4] = array::from_fn(
-                    |port|
-                        requires { (node < 64) × (port < 4) }
-                    {
-                        self.got(Place {
-                            node,
-                            port: port as u8,
-                        })
-                    },
-                );
+                let ports = self.flags(node);
                 // As some_port has it.
                 if ports[0] | ports[1] | ports[2] | ports[3] {
                     Cell::Wrote {

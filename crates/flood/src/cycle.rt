@@ -43,9 +43,10 @@ fn start(owner: u8, deaf: &[bool; 64], count: u8) -> [Cell; 64]
     array::from_fn(
         |node| -> Cell
             requires { node < 64 }
-            ensures { cell_view result ≡ (if nat_eq node owner || slice_index_or deaf.entry.now node false then deaf-cell else waiting) }
+            ensures { node < count → cell_view result ≡ (if nat_eq node owner || slice_index_or deaf.entry.now node false then deaf-cell else waiting) }
         {
-            if (node == owner as usize) | deaf[node] {
+            // Past the count no node is asked.
+            if node < count as usize && (node == owner as usize || deaf[node]) {
                 Cell::Deaf
             } else {
                 Cell::Waiting

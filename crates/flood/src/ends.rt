@@ -1,5 +1,5 @@
 //! The far ends of all ports, asked from a wiring.
-ghost use Rattle.std.specs.Prelude.{◌≡◌};
+ghost use Rattle.std.specs.Prelude.{◌≡◌, ◌<◌, ◌/◌, ◌%◌};
 ghost use Rattle.flood.specs.View.{wired, far_in};
 
 use crate::types::Ends;
@@ -11,7 +11,12 @@ impl Ends {
     pub fn of<W: Wiring>(wiring: &W) -> Ends
         ensures { wired (W.Wiring.layout wiring.now).count result.at ≡ W.Wiring.layout wiring.now }
     {
-        let at = array::from_fn(|place| wiring.far_end((place / 4) as u8, (place % 4) as u8));
+        let at = array::from_fn(
+            |place| -> Option<(u8, u8)>
+                requires { place < 256 }
+                ensures { result ≡ (W.Wiring.layout wiring.entry.now).far (place / 4) (place % 4) }
+            { wiring.far_end((place / 4) as u8, (place % 4) as u8) },
+        );
         Ends { at }
     }
 

@@ -19,7 +19,11 @@ begun n p (Some end) = go (ltb n end.0)
 pub node_counted : (l : Layout) (n : ℕ) → count_by (λ p. begins n (l.far n p)) (range_with_len 0 4) ≡ length (node_cables l n)
 node_counted l n = simp (length-append, begun) (grind (arith, nat_tests))
 
-below_more : (l : Layout) (k : ℕ) → length (cables_below l (k + 1)) ≡ length (cables_below l k) + length (node_cables l k)
+pub below_none : (l : Layout) → 0 ≡ length (cables_below l 0)
+unfolding cables_below
+below_none l = refl
+
+pub below_more : (l : Layout) (k : ℕ) → length (cables_below l (k + 1)) ≡ length (cables_below l k) + length (node_cables l k)
 unfolding cables_below
 below_more l k = ap (λ n. length (cables_below l n)) (add-one k) ∙ length-append (cables_below l k) (node_cables l k)
 

@@ -18,7 +18,13 @@ fn begin_at<W: Wiring>(wiring: &W, node: u8) -> u16
     ensures value { result ≡ length (node_cables (W.Wiring.layout wiring.now) node) }
     ensures bound { result ≤ 4 }
 {
-    (0..4).filter(|port| begins(wiring, node, *port)).count() as u16
+    (0..4)
+        .filter(
+            |port: &u8| -> bool
+                ensures { result ≡ begins node ((W.Wiring.layout wiring.entry.now).far node port.now) }
+            { begins(wiring, node, *port) },
+        )
+        .count() as u16
 }
 
 /// The number of cables of a wiring.

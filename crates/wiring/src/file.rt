@@ -3,7 +3,7 @@
 //! node, port, node, port. specs/File.antt says what the reader answers, byte by byte, and
 //! specs/Spells.antt what it is for a file to spell a wiring.
 ghost use Rattle.std.specs.Prelude.{◌≡◌, ℕ, ◌+◌, ◌*◌, ◌<◌, ◌≤◌, List, length, Some, None, Ok, Err, MatchResult};
-ghost use Rattle.wiring.specs.Cables.{cabled};
+ghost use Rattle.wiring.specs.Cables.{join, cabled};
 ghost use Rattle.wiring.specs.Spells.{Spelling, Unspelled};
 ghost use Rattle.wiring.specs.Wired.{wired};
 ghost use Rattle.wiring.specs.File.{mark_fault, header_fault, nodes_said, cable_at, refused_or, end_problem, taken_problem, problem, lay, Gives, read_table, read_file};
@@ -61,6 +61,16 @@ fn cable_in(bytes: &[u8], index: u8) -> Cable
     }
 }
 
+// One cable more in a table, at both of its ends.
+fn join(ends: &mut [Option<(u8, u8)>; 256], cable: Cable)
+    requires start { (cable.start.0 < 64) × (cable.start.1 < 4) }
+    requires end { (cable.end.0 < 64) × (cable.end.1 < 4) }
+    ensures { ends.new ≡ join ends.old cable }
+{
+    ends[slot_of(cable.start)] = Some(cable.end);
+    ends[slot_of(cable.end)] = Some(cable.start);
+}
+
 impl CableList {
     // An end is a node that there is and one of its ports; `byte` is where the cable has it.
     fn check_end(&self, end: (u8, u8), byte: u8) -> Result<(), (CableProblem, u8)>
@@ -112,8 +122,7 @@ impl CableList {
             index,
             place: 7 + 4 * index as u16 + byte as u16,
         })?;
-        self.ends[slot_of(cable.start)] = Some(cable.end);
-        self.ends[slot_of(cable.end)] = Some(cable.start);
+        join(&mut self.ends, cable);
         Ok(())
     }
 }

@@ -1,4 +1,4 @@
-use Rattle.std.proofs.Common.{◌≡◌, ℕ, ◌<◌, length, get_or, sym, refl, ap, ◌∙◌, ap₂, arith, length-set}
+use Rattle.std.proofs.Common.{◌≡◌, ℕ, ◌<◌, length, get_or, sym, ap, ◌∙◌, ap₂, arith}
 use Rattle.rules.specs.State as rules
 use Rattle.rules.specs.Flood as flood
 use Rattle.rules.specs.Slot.{informed, heard}
@@ -8,36 +8,33 @@ use Rattle.flood.specs.View.{cell_view, cells_view}
 use Rattle.flood.proofs.Arrays.{cell_read}
 use Rattle.board.specs.declared.types.Node.{Node}
 use Rattle.board.specs.View.{node_view, nodes_view}
-use Rattle.board.proofs.Boards.{board_table}
+use Rattle.board.proofs.Boards.{same_at, board_table}
 use Rattle.board.proofs.Records.{no_node, node_read}
 use Rattle.board.proofs.types.Board.inform.Goals as goal
 
-pub loop-node-init : goal.loop-node-init
-loop-node-init c = (c.args.self.now.nodes_long, (λ k h. absurd (omega arith)), λ k h. refl)
-
 pub loop-node-preserved : goal.loop-node-preserved
 loop-node-preserved c =
-    let items = c.loop-node.held-items in
-    let i = c.loop-node.node in
-    let l : i < length items = omega (arith, c.loop-node.invariant.0) in
-    let same = c.loop-node.invariant.2 i (omega arith) in (
-      length-set items i _ ∙ c.loop-node.invariant.0,
-      below_written no_node items i _ (λ (k : ℕ) (x : Node). (count : ℕ) → c.args.owner < count → node_view count x ≡ informed (node_view count (get_or c.args.self.now.nodes k no_node)) c.args.owner (cell_view (get_or c.args.cells.now k Waiting))) l c.loop-node.invariant.1
-          (λ count h. c.inform_record.ensures count h ∙ ap (λ (x : Node). informed (node_view count x) c.args.owner (cell_view (get_or c.args.cells.now i Waiting))) same),
-      rest_written no_node items i _ (λ (k : ℕ) (x : Node). x ≡ get_or c.args.self.now.nodes k no_node) c.loop-node.invariant.2,
+    let count = c.args.self.now.count in
+    let nodes = c.loop-node.self.nodes in
+    let l : c.loop-node.node < length nodes = omega (arith, c.loop-node.self.nodes_long, c.args.self.now.count_few) in
+    let same = c.loop-node.invariant.2 c.loop-node.node (omega arith) in (
+      c.loop-node.invariant.0,
+      below_written no_node nodes c.loop-node.node _ (λ (k : ℕ) (x : Node). node_view count x ≡ informed (node_view count (get_or c.args.self.now.nodes k no_node)) c.args.owner (cell_view (get_or c.args.cells.now k Waiting))) l c.loop-node.invariant.1
+          (c.inform_record.ensures count c.requires ∙ ap (λ (x : Node). informed (node_view count x) c.args.owner (cell_view (get_or c.args.cells.now c.loop-node.node Waiting))) same),
+      rest_written no_node nodes c.loop-node.node _ (λ (k : ℕ) (x : Node). x ≡ get_or c.args.self.now.nodes k no_node) c.loop-node.invariant.2,
     )
-
-pub invariant_of-self : goal.invariant_of-self
-invariant_of-self c = record { count_some = c.args.self.now.count_some; count_few = c.args.self.now.count_few; nodes_long = c.loop-node.invariant.0 }
 
 pub returns : goal.returns
 unfolding heard
 returns c =
     let b = c.args.self.now in
     record {
-      nodes =
-          board_table b _ (λ k. informed (rules.node_of (nodes_view b) k) c.args.owner (flood.cell_of (cells_view b.count c.args.cells.now) k)) refl
-          (λ k h. c.loop-node.invariant.1 k (omega (arith, b.count_few)) b.count c.requires
-          ∙ ap₂ (λ (x : rules.Node) (y : flood.Cell). informed x c.args.owner y) (sym (node_read b k h)) (sym (cell_read b.count c.args.cells.now k h)));
-      count = refl;
+      board = record {
+        nodes =
+            board_table b c.loop-node.self (λ k. informed (rules.node_of (nodes_view b) k) c.args.owner (flood.cell_of (cells_view b.count c.args.cells.now) k)) c.loop-node.invariant.0
+            (λ k h. c.loop-node.invariant.1 k (omega arith)
+            ∙ ap₂ (λ (x : rules.Node) (y : flood.Cell). informed x c.args.owner y) (sym (node_read b k h)) (sym (cell_read b.count c.args.cells.now k h)));
+        count = c.loop-node.invariant.0;
+      };
+      past = λ k d h. same_at c.loop-node.self.nodes b.nodes k d no_node (b.nodes_long ∙ sym c.loop-node.self.nodes_long) (c.loop-node.invariant.2 k (omega arith));
     }

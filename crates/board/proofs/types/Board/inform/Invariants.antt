@@ -1,4 +1,4 @@
-use Rattle.std.proofs.Common.{◌≡◌, ℕ, ◌<◌, ◌≤◌, get_or, length}
+use Rattle.std.proofs.Common.{◌≡◌, ℕ, ◌<◌, ◌≤◌, get_or}
 use Rattle.rules.specs.Slot.{informed}
 use Rattle.flood.specs.declared.types.Cell.TheVariants.{Waiting}
 use Rattle.flood.specs.View.{cell_view}
@@ -8,6 +8,6 @@ use Rattle.board.proofs.types.Board.inform.Given as goal
 
 abbrev pub invariant-loop-node : goal.invariant-loop-node
 invariant-loop-node l =
-    (length l.held-items ≡ 64)
-    × ((k : ℕ) → k < l.node → (count : ℕ) → l.owner < count → node_view count (get_or l.held-items k no_node) ≡ informed (node_view count (get_or l.fn.self.nodes k no_node)) l.owner (cell_view (get_or l.cells k Waiting)))
-    × ((k : ℕ) → l.node ≤ k → get_or l.held-items k no_node ≡ get_or l.fn.self.nodes k no_node)
+    (l.self.count ≡ l.initial.self.count)
+    × ((k : ℕ) → k < l.node → node_view l.initial.self.count (get_or l.self.nodes k no_node) ≡ informed (node_view l.initial.self.count (get_or l.initial.self.nodes k no_node)) l.owner (cell_view (get_or l.cells k Waiting)))
+    × ((k : ℕ) → l.node ≤ k → get_or l.self.nodes k no_node ≡ get_or l.initial.self.nodes k no_node)

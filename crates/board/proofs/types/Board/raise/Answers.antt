@@ -6,6 +6,6 @@ use Rattle.board.proofs.types.Board.raise.Goals as goal
 pub returns : goal.returns
 unfolding raised
 returns c = record {
-  nodes = node_written raised c.args.self.now _ c.args.node _ c.requires refl refl refl;
+  nodes = node_written raised c.args.self.now _ c.args.node _ c.requires refl refl (rw c.hand_up.ensures refl);
   count = refl;
 }

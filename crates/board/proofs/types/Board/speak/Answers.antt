@@ -14,7 +14,7 @@ returns c =
     record {
       cycles = ap (λ (x : Spread). x.cycles) is;
       board = record {
-        nodes = c.inform.ensures.nodes ∙ heard_count c.args.self.now.count c.args.ends.now.at nodes c.args.owner _ ∙ ap (λ (x : Spread). heard w nodes c.args.owner x.cells) is;
-        count = c.inform.ensures.count;
+        nodes = c.inform.ensures.board.nodes ∙ heard_count c.args.self.now.count c.args.ends.now.at nodes c.args.owner _ ∙ ap (λ (x : Spread). heard w nodes c.args.owner x.cells) is;
+        count = c.inform.ensures.board.count;
       };
     }

@@ -1,38 +1,35 @@
-use Rattle.std.proofs.Common.{◌≡◌, ℕ, ◌<◌, length, get_or, sym, refl, ap, ◌∙◌, arith, length-set}
+use Rattle.std.proofs.Common.{◌≡◌, ℕ, ◌<◌, length, get_or, sym, ap, ◌∙◌, arith}
 use Rattle.rules.specs.State as rules
 use Rattle.rules.specs.Slot.{tick}
 use Rattle.rules.proofs.Views.{below_written, rest_written}
 use Rattle.board.specs.declared.types.Node.{Node}
 use Rattle.board.specs.View.{node_view, nodes_view}
-use Rattle.board.proofs.Boards.{board_table, map_table, view_length}
+use Rattle.board.proofs.Boards.{same_at, board_table, map_table, view_length}
 use Rattle.board.proofs.Records.{no_node, node_read}
 use Rattle.board.proofs.types.Board.tick.Goals as goal
 
-pub loop-held-init : goal.loop-held-init
-loop-held-init c = (c.args.self.now.nodes_long, (λ k h. absurd (omega arith)), λ k h. refl)
-
-pub loop-held-preserved : goal.loop-held-preserved
-loop-held-preserved c =
-    let items = c.loop-held.held-items in
-    let i = c.loop-held.held-index in
-    let l : i < length items = omega (arith, c.loop-held.invariant.0) in
-    let same = c.loop-held.invariant.2 i (omega arith) in (
-      length-set items i _ ∙ c.loop-held.invariant.0,
-      below_written no_node items i _ (λ (k : ℕ) (x : Node). (count : ℕ) → node_view count x ≡ tick (node_view count (get_or c.args.self.now.nodes k no_node))) l c.loop-held.invariant.1
-          (λ count. rw c.ticked-held.ensures (ap (λ (x : Node). tick (node_view count x)) same)),
-      rest_written no_node items i _ (λ (k : ℕ) (x : Node). x ≡ get_or c.args.self.now.nodes k no_node) c.loop-held.invariant.2,
+pub loop-node-preserved : goal.loop-node-preserved
+loop-node-preserved c =
+    let count = c.args.self.now.count in
+    let nodes = c.loop-node.self.nodes in
+    let l : c.loop-node.node < length nodes = omega (arith, c.loop-node.self.nodes_long, c.args.self.now.count_few) in
+    let same = c.loop-node.invariant.2 c.loop-node.node (omega arith) in (
+      c.loop-node.invariant.0,
+      below_written no_node nodes c.loop-node.node _ (λ (k : ℕ) (x : Node). node_view count x ≡ tick (node_view count (get_or c.args.self.now.nodes k no_node))) l c.loop-node.invariant.1
+          (c.tick_record.ensures count ∙ ap (λ (x : Node). tick (node_view count x)) same),
+      rest_written no_node nodes c.loop-node.node _ (λ (k : ℕ) (x : Node). x ≡ get_or c.args.self.now.nodes k no_node) c.loop-node.invariant.2,
     )
-
-pub invariant_of-self : goal.invariant_of-self
-invariant_of-self c = record { count_some = c.args.self.now.count_some; count_few = c.args.self.now.count_few; nodes_long = c.loop-held.invariant.0 }
 
 pub returns : goal.returns
 returns c =
     let b = c.args.self.now in
     record {
-      nodes =
-          board_table b _ (λ k. tick (rules.node_of (nodes_view b) k)) refl
-          (λ k h. c.loop-held.invariant.1 k (omega (arith, b.count_few)) b.count ∙ ap tick (sym (node_read b k h)))
-          ∙ sym (map_table tick (nodes_view b) b.count rules.absent (view_length b));
-      count = refl;
+      board = record {
+        nodes =
+            board_table b c.loop-node.self (λ k. tick (rules.node_of (nodes_view b) k)) c.loop-node.invariant.0
+            (λ k h. c.loop-node.invariant.1 k (omega arith) ∙ ap tick (sym (node_read b k h)))
+            ∙ sym (map_table tick (nodes_view b) b.count rules.absent (view_length b));
+        count = c.loop-node.invariant.0;
+      };
+      past = λ k d h. same_at c.loop-node.self.nodes b.nodes k d no_node (b.nodes_long ∙ sym c.loop-node.self.nodes_long) (c.loop-node.invariant.2 k (omega arith));
     }

@@ -1,11 +1,11 @@
-use Rattle.std.proofs.Common.{◌≡◌, ℕ, ◌<◌, ◌≤◌, get_or, length}
+use Rattle.std.proofs.Common.{◌≡◌, ℕ, ◌<◌, ◌≤◌, get_or}
 use Rattle.rules.specs.Slot.{tick}
 use Rattle.board.specs.View.{node_view}
 use Rattle.board.proofs.Records.{no_node}
 use Rattle.board.proofs.types.Board.tick.Given as goal
 
-abbrev pub invariant-loop-held : goal.invariant-loop-held
-invariant-loop-held l =
-    (length l.held-items ≡ 64)
-    × ((k : ℕ) → k < l.held-index → (count : ℕ) → node_view count (get_or l.held-items k no_node) ≡ tick (node_view count (get_or l.fn.self.nodes k no_node)))
-    × ((k : ℕ) → l.held-index ≤ k → get_or l.held-items k no_node ≡ get_or l.fn.self.nodes k no_node)
+abbrev pub invariant-loop-node : goal.invariant-loop-node
+invariant-loop-node l =
+    (l.self.count ≡ l.initial.self.count)
+    × ((k : ℕ) → k < l.node → node_view l.initial.self.count (get_or l.self.nodes k no_node) ≡ tick (node_view l.initial.self.count (get_or l.initial.self.nodes k no_node)))
+    × ((k : ℕ) → l.node ≤ k → get_or l.self.nodes k no_node ≡ get_or l.initial.self.nodes k no_node)

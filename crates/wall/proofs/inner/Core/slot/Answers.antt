@@ -13,7 +13,7 @@ returns c =
     record {
       answer = c.begin_slot-answer.ensures.answer ∙ ap (λ (x : Slotted). x.answer) (sym (slot_begun w s));
       after = slot_ended w s (nodes_view c.begin_slot-answer.new.self) _ _ _ _ _
-          c.begin_slot-answer.ensures.nodes c.tick.ensures.nodes c.send_home.ensures.packets c.following-self.ensures
-          (c.tick.ensures.count ∙ c.begin_slot-answer.ensures.count) c.send_home.ensures.last;
-      count = c.tick.ensures.count ∙ c.begin_slot-answer.ensures.count;
+          c.begin_slot-answer.ensures.nodes c.tick.ensures.board.nodes c.send_home.ensures.packets c.following-self.ensures
+          (c.tick.ensures.board.count ∙ c.begin_slot-answer.ensures.count) c.send_home.ensures.last;
+      count = c.tick.ensures.board.count ∙ c.begin_slot-answer.ensures.count;
     }

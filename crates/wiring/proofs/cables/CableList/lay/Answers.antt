@@ -9,7 +9,7 @@ invariant_of-self c =
     let l = c.args.self.now in
     let good = ap is_ok (sym c.check.ensures) ∙ sym c.map_err.ensures.variant ∙ ap is_ok c.in_ok-map_err.was in
     let f = fits l.count l.ends c.args.cable (unrefused (problem l.count l.ends c.args.cable) _ good) in
-    rw (c.slot_of.ensures.value, c.slot_of-2.ensures.value) (record {
+    rw c.join.ensures (record {
       few = l.few;
       size = join_size l.ends c.args.cable l.size;
       sound = ∥∥₁_map l.sound (join_sound l.count l.few l.ends l.size c.args.cable f);
