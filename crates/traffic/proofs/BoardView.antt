@@ -1,11 +1,17 @@
 -- Reading the view of a board.
-use Rattle.std.proofs.Common.{◌≡◌, ℕ, ltb, map, length, get_or, take, sym, ap, ◌∙◌, is_some, Some, None, Option, MatchOption, IfSome, Bor, arith}
+use Rattle.std.proofs.Common.{◌≡◌, ℕ, zero, suc, ltb, List, [], ◌∷◌, map, length, get_or, take, sym, refl, ap, ◌∙◌, is_some, Some, None, Option, MatchOption, IfSome, Bor, arith}
 use Rattle.std.proofs.lemmas.List.{get_or-map, get_or_past, length-map}
 use Rattle.std.proofs.lemmas.Bool.{ltb-true, ltb-false}
 use Rattle.rules.specs.State.{node_of, absent}
 use Rattle.board.specs.declared.types.Board.{Board}
 use Rattle.board.specs.declared.types.Node.{Node}
 use Rattle.board.specs.View.{node_view, nodes_view}
+
+-- A reading commutes with a map, in range or not.
+pub getD_of_map : {X Y : Type 0} (f : X → Y) (xs : List X) (i : ℕ) (d : X) → get_or (map f xs) i (f d) ≡ f (get_or xs i d)
+getD_of_map f [] i d = refl
+getD_of_map f (x ∷ xs) zero d = refl
+getD_of_map f (x ∷ xs) (suc i) d = getD_of_map f xs i d
 
 -- What a reading of the records finds, or that it finds none, is what stands in their view.
 pub node_found : (b : Board) (n : ℕ) (o : Option (Bor Node)) → is_some o ≡ ltb n (length (take b.count b.nodes)) →

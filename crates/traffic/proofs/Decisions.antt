@@ -10,16 +10,25 @@ use Rattle.rules.specs.declared.Packet.{Packet}
 use Rattle.rules.specs.Calls.{not_serving}
 use Rattle.rules.specs.Ports.{Ports, has, ports_where, some_port}
 use Rattle.rules.specs.State.{Node, Entry, nothing, entry, node_of, entry_of}
-use Rattle.rules.specs.Step.{Fate, waits, delivered, returned, crosses, offered, offer_for, crossing, fate}
-use Rattle.traffic.specs.Choosing.{offer_set, LandsInside, Asked, Crossed, Decided}
+use Rattle.rules.specs.Step.{Fate, waits, delivered, returned, crosses, taken, far_port_empty, offered, offer_for, crossing, fate}
+use Rattle.traffic.specs.declared.types.Fate as code
+use Rattle.traffic.specs.Choosing.{offer_set, fate_view, landing, LandsInside, Asked, Crossed, Decided}
 use Rattle.traffic.specs.Offers.{port_offered}
 
 -- The far end of a port
 
-far_inside : (layout : Layout) (n p : ℕ) → Sound layout → (m q : ℕ) → Some (m, q) ≡ layout.far n p → (m < 64) × (q < 4)
+pub far_inside : (layout : Layout) (n p : ℕ) → Sound layout → (m q : ℕ) → Some (m, q) ≡ layout.far n p → (m < 64) × (q < 4)
 far_inside layout n p sound m q e =
     let in_range = sound.in_range n p m q (sym e) in
     (omega (arith, in_range.0, sound.few_nodes), in_range.1)
+
+module _ (layout : Layout) (n p : ℕ) (others : List Packet) where
+  abbrev empty_at : Option (ℕ × ℕ) → Bool
+  empty_at o = elim o [ None ↦ false | Some far ↦ not (taken far.0 far.1 others) ]
+
+  pub far_empty_at_some : (m q : ℕ) → Some (m, q) ≡ layout.far n p → not (taken m q others) ≡ far_port_empty layout others n p
+  unfolding far_port_empty
+  far_empty_at_some m q e = ap empty_at e
 
 -- Offers
 
@@ -65,15 +74,19 @@ module _ (layout : Layout) (n : ℕ) (offer : Ports) (pick : ℕ) where
   unfolding crossing
   crossing_not e = ap crossing_by (sym e)
 
+  lands_there : (far : Option (ℕ × ℕ)) → fate_view (landing far) ≡ led_to far
+  lands_there None = refl
+  lands_there (Some far) = refl
+
   crossing_led : (far : Option (ℕ × ℕ)) → some_port offer ≡ true → far ≡ layout.far n pick → led_to far ≡ crossing layout n offer pick
   unfolding crossing
   crossing_led far e l = ap led_to l ∙ ap crossing_by (sym e)
 
 module _ {C : Type 0} (picks : C → PortSet → ℕ → C → Type 0) where
-  asks_none : (offer : Ports) (c : C) → some_port offer ≡ false → Asked picks (offer, 0) c c
+  pub asks_none : (offer : Ports) (c : C) → some_port offer ≡ false → Asked picks (offer, 0) c c
   asks_none offer c e = subst (λ (b : Bool). MatchBool b (picks c (offer_set offer) 0 c) ((◌≡◌ {A = ℕ} 0 0) × (c ≡ c))) (sym e) (refl, refl)
 
-  asks_some : (offer : Ports) (pick : ℕ) (c d : C) → some_port offer ≡ true → picks c (offer_set offer) pick d → Asked picks (offer, pick) c d
+  pub asks_some : (offer : Ports) (pick : ℕ) (c d : C) → some_port offer ≡ true → picks c (offer_set offer) pick d → Asked picks (offer, pick) c d
   asks_some offer pick c d e h = subst (λ (b : Bool). MatchBool b (picks c (offer_set offer) pick d) ((pick ≡ 0) × (d ≡ c))) (sym e) h
 
   module _ (layout : Layout) (n : ℕ) (offer : Ports) where
@@ -87,6 +100,12 @@ module _ {C : Type 0} (picks : C → PortSet → ℕ → C → Type 0) where
       fated = crossing_led layout n offer pick far some e;
       asked = asks_some offer pick c d some (subst (λ (s : PortSet). picks c s pick d) made picked);
     }
+
+    pub crosses_landed : (set : PortSet) → set ≡ offer_set offer → (pick : ℕ) (c d : C) → some_port offer ≡ true → picks c set pick d →
+        (far : Option (ℕ × ℕ)) → far ≡ layout.far n pick → (f : code.Fate) → f ≡ landing far → Crossed picks layout n offer (fate_view f) c d
+    crosses_landed set made pick c d some picked far e f is =
+        subst (λ (g : Fate). Crossed picks layout n offer g c d) (sym (ap fate_view is ∙ lands_there layout n offer pick far))
+        (crosses_led set made pick c d some picked far e)
 
 -- Fates
 

@@ -1,5 +1,6 @@
 -- The checks of a post, and the two ways that it ends.
-use Rattle.std.proofs.Common.{◌≡◌, ℕ, ◌+◌, ◌<◌, Bool, true, false, ◌||◌, eqb, leb, List, length, take, set, Some, None, Option, Result, Err, sym, refl, ap, ◌∙◌, subst}
+use Rattle.std.proofs.Common.{◌≡◌, ℕ, ◌+◌, ◌<◌, MatchOption, Bool, true, false, ◌||◌, eqb, leb, List, length, take, set, Some, None, Option, Result, Err, sym, refl, ap, ◌∙◌, subst, arith}
+use Rattle.std.proofs.lemmas.Bool.{leb-false, or_parts}
 use Rattle.std.proofs.lemmas.List.{take_more_set}
 use Rattle.wiring.specs.Layout.{Layout}
 use Rattle.rules.specs.declared.Packet.{Packet}
@@ -22,7 +23,36 @@ one_check : (a b : Bool) (reason : Refusal) (later : Option Refusal) →
 one_check true b reason later = refl
 one_check false b reason later = refl
 
+not_none : (reason : Refusal) → None ≡ Some reason → ⊥
+not_none reason e = let z : ◌≡◌ {A = ℕ} 0 1 = cc in omega arith
+
+passes : (a b c d e f : Bool) → None ≡ first_reason a b c d e f → (a ≡ false) × (e ≡ false) × (f ≡ false)
+passes true b c d e f h = absurd (not_none _ h)
+passes false true c d e f h = absurd (not_none _ h)
+passes false false true d e f h = absurd (not_none _ h)
+passes false false false true e f h = absurd (not_none _ h)
+passes false false false false true f h = absurd (not_none _ h)
+passes false false false false false true h = absurd (not_none _ h)
+passes false false false false false false h = (refl, refl, refl)
+
 module _ (board : Board) (flight : Flight) (source destination : ℕ) where
+  -- What a post finds that is not turned down.
+  pub room_for_post : None ≡ why_not board flight source destination →
+      (source < board.count) × (flight.count < 256) × (flight.last < 4294967295)
+  room_for_post h =
+      let passed = passes (leb board.count source || leb board.count destination) (eqb source destination)
+      (not_serving (node_of (nodes_view board) source).mode) (is_nothing (entry_of (nodes_view board) source destination))
+      (leb most_packets flight.count) (leb last_number flight.last) h in (
+        leb-false board.count source (or_parts (leb board.count source) (leb board.count destination) passed.0).0,
+        leb-false most_packets flight.count passed.1,
+        leb-false last_number flight.last passed.2,
+      )
+
+  pub turned_room : (turned : Option Refusal) → turned ≡ why_not board flight source destination →
+      MatchOption turned ((source < board.count) × (flight.count < 256) × (flight.last < 4294967295)) (λ reason. reason ≡ reason)
+  turned_room None e = room_for_post e
+  turned_room (Some reason) e = refl
+
   abbrev checks : ℕ → ℕ → Option Refusal
   checks nodes packets =
       first_reason (leb nodes source || leb nodes destination) (eqb source destination)

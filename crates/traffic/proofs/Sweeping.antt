@@ -57,7 +57,7 @@ to_come_stays flight flight' stayed j behind h k =
     ∙ ap (take (flight.count - j)) (drop_same flight'.places flight.places (stayed + 1) j h behind.places_stay)
     ∙ sym (front_of_rest flight.places j flight.count k)
 
-few_others : (flight : Flight) (sweep : Sweep) (i : ℕ) → sweep.stayed ≤ i → i < flight.count →
+pub few_others : (flight : Flight) (sweep : Sweep) (i : ℕ) → sweep.stayed ≤ i → i < flight.count →
     length (staying flight sweep ++ to_come flight (i + 1)) < 65535
 few_others flight sweep i h k =
     omega (
@@ -89,7 +89,7 @@ module _ (flight : Flight) (sweep : Sweep) (held : Tray Outcome) (i : ℕ) (read
   abbrev less_one : Occupancy → Sweep
   less_one occupancy = record { occupancy = occupancy; stayed = sweep.stayed; counts = sweep.counts }
 
-  counted_next : Counts sweep.occupancy (staying flight sweep ++ next ∷ to_come flight (i + 1))
+  pub counted_next : Counts sweep.occupancy (staying flight sweep ++ next ∷ to_come flight (i + 1))
   counted_next = subst (λ (xs : List Packet). Counts sweep.occupancy (staying flight sweep ++ xs)) (next_to_come flight i within) ready.counted
 
   pub ready_to_depart : Inside next × CountedIn sweep.occupancy next
@@ -104,7 +104,7 @@ module _ (flight : Flight) (sweep : Sweep) (held : Tray Outcome) (i : ℕ) (read
 
     module _ {C : Type 0} (picks : C → PortSet → ℕ → C → Type 0) (layout : Layout) (nodes : List Node) (f : code.Fate) (c c' : C)
         (decides : (xs : List Packet) → Counts occupancy xs → Decided picks layout nodes xs next (fate_view f) c c') where
-      decided : Decided picks layout nodes others next (fate_view f) c c'
+      pub decided : Decided picks layout nodes others next (fate_view f) c c'
       decided = decides others counted_others
 
       pub ready_to_apply : Sound layout → ReadyFor f next (less_one occupancy) held
@@ -118,7 +118,7 @@ module _ (flight : Flight) (sweep : Sweep) (held : Tray Outcome) (i : ℕ) (read
       }
 
       module _ (flight' : Flight) (sweep' : Sweep) (held' : Tray Outcome) where
-        ready_next : OccupancyFollows flight (less_one occupancy) flight' sweep' →
+        pub ready_next : OccupancyFollows flight (less_one occupancy) flight' sweep' →
             BehindStays sweep.stayed flight flight' → Onward (less_one occupancy) held sweep' held' → Ready flight' sweep' held' (i + 1)
         ready_next follows behind onward = record {
           started = omega (arith, ready.started, onward.stayed_more);
@@ -129,7 +129,7 @@ module _ (flight : Flight) (sweep : Sweep) (held : Tray Outcome) (i : ℕ) (read
           room = omega (arith, onward.free_fewer, ready.room, behind.count_stays);
         }
 
-        takes_effect : Applies f next flight (less_one occupancy) held flight' sweep' held' →
+        pub takes_effect : Applies f next flight (less_one occupancy) held flight' sweep' held' →
             (first : Tray Outcome) (mid : Middle) → Shows first mid flight sweep held →
             Shows first (take_one layout nodes next (to_come flight (i + 1)) decided.pick mid) flight' sweep' held'
         unfolding take_one

@@ -1,7 +1,7 @@
 -- The questions that a step puts to its chooser, and what is decided by the answers.
 -- `picks before offer port after` is what a chooser allows: offered these ports, it answers this
 -- port and remembers another value.
-use Rattle.std.specs.Prelude.{◌≡◌, ℕ, ◌<◌, false, List, [], ◌∷◌, MatchBool, slice_index_or}
+use Rattle.std.specs.Prelude.{◌≡◌, ℕ, ◌<◌, false, List, [], ◌∷◌, Some, None, MatchBool, Option, slice_index_or}
 use Rattle.wiring.specs.Layout.{Layout}
 use Rattle.chooser.specs.declared.ports.PortSet.{PortSet}
 use Rattle.chooser.specs.PortSets as chooser
@@ -21,6 +21,11 @@ fate_view Waits = rules.waits
 fate_view Delivered = rules.delivered
 fate_view Returned = rules.returned
 fate_view (Crosses node port) = rules.crosses node port
+
+-- Where the cable of the picked port leads.
+abbrev pub landing : Option (ℕ × ℕ) → Fate
+landing None = Waits
+landing (Some far) = Crosses far.0 far.1
 
 -- A packet that crosses a cable comes to one of four ports of a node below 64.
 abbrev pub LandsInside : rules.Fate → Type 0

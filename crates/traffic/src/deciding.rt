@@ -1,9 +1,9 @@
 //! What happens to one packet in a step.
-ghost use Rattle.std.specs.Prelude.{List};
+ghost use Rattle.std.specs.Prelude.{◌≡◌, List};
 ghost use Rattle.rules.specs.declared.Packet.{Packet};
 ghost use Rattle.board.specs.View.{nodes_view};
 ghost use Rattle.traffic.specs.Occupied.{Counts};
-ghost use Rattle.traffic.specs.Choosing.{fate_view, Crossed, Decided};
+ghost use Rattle.traffic.specs.Choosing.{fate_view, landing, Crossed, Decided};
 
 use crate::reads::{entry_at, mode_at};
 use crate::types::{Fate, Scene};
@@ -38,9 +38,23 @@ impl<W: Wiring> Scene<'_, W> {
         if ports.is_empty() {
             return Fate::Waits;
         }
-        match self.wiring.far_end(node, chooser.pick(ports)) {
-            None => Fate::Waits,
-            Some((node, port)) => Fate::Crosses { node, port },
-        }
+        landed(self.wiring.far_end(node, ask(chooser, ports)))
     }
+}
+
+// Where a packet comes to by the picked port.
+fn landed(far: Option<(u8, u8)>) -> Fate
+    ensures { result ≡ landing far }
+{
+    match far {
+        None => Fate::Waits,
+        Some((node, port)) => Fate::Crosses { node, port },
+    }
+}
+
+// The chooser's own pick from the ports offered.
+fn ask<C: Chooser>(chooser: &mut C, ports: PortSet) -> u8
+    ensures { C.Chooser.picks chooser.old ports result chooser.new }
+{
+    chooser.pick(ports)
 }

@@ -1,5 +1,5 @@
 //! A wall without packets, and posting one.
-ghost use Rattle.std.specs.Prelude.{◌≡◌, [], MatchResult, None, Some};
+ghost use Rattle.std.specs.Prelude.{◌≡◌, ◌<◌, [], MatchResult, None, Some};
 ghost use Rattle.traffic.specs.View.{packets_view};
 ghost use Rattle.traffic.specs.Posting.{why_not, Posts};
 
@@ -60,7 +60,8 @@ impl Flight {
 
     // Why a post is refused, if it is: the first check that fails.
     fn check_post(&self, board: &Board, source: u8, destination: u8) -> Result<(), Refusal>
-        ensures { MatchResult result (λ _. why_not board.now self.now source destination ≡ None) (λ reason. why_not board.now self.now source destination ≡ Some reason) }
+        ensures reason { MatchResult result (λ _. why_not board.now self.now source destination ≡ None) (λ reason. why_not board.now self.now source destination ≡ Some reason) }
+        ensures room { MatchResult result (λ _. (source < board.now.count) × (self.now.count < 256) × (self.now.last < 4294967295)) (λ reason. reason ≡ reason) }
     {
         if source >= board.count || destination >= board.count {
             return Err(Refusal::NodeOutOfRange);

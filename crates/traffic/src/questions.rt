@@ -15,10 +15,11 @@ impl Flight {
     }
 
     /// The packet with so many others in flight before it, by rising number.
+    #[tactic(auto, using(crate::proofs::Standing::in_flight))]
     pub fn packet(&self, i: usize) -> Option<Packet>
         ensures { result ≡ slice_get (packets_view self.now) i }
     {
-        self.packets().get(i).copied()
+        self.places[..self.in_flight()].get(i).copied()
     }
 
     // The packets in flight.

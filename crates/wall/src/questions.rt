@@ -35,11 +35,12 @@ impl<W: Wiring, C: Chooser> Wall<W, C> {
     }
 
     // A node's record, or the refusal of a node that the wall does not have.
-    fn held(&self, node: u8) -> Result<Node, Refusal>
-        ensures { MatchResult result (λ held. (node < (W.Wiring.layout self.now.wiring).count) × (node_view (W.Wiring.layout self.now.wiring).count held ≡ node_of (state_of (W.Wiring.layout self.now.wiring) self.now.core).nodes node)) (λ reason. (reason ≡ NodeOutOfRange) × ((W.Wiring.layout self.now.wiring).count ≤ node)) }
+    #[tactic(auto, using(board::proofs::Records::read_at), unfolding(crate::specs::View::state_of))]
+    fn held(&self, node: u8) -> Result<&Node, Refusal>
+        ensures { MatchResult result (λ held. (node < (W.Wiring.layout self.now.wiring).count) × (node_view (W.Wiring.layout self.now.wiring).count held.now ≡ node_of (state_of (W.Wiring.layout self.now.wiring) self.now.core).nodes node)) (λ reason. (reason ≡ NodeOutOfRange) × ((W.Wiring.layout self.now.wiring).count ≤ node)) }
     {
         self.check_node(node)?;
-        Ok(self.core.board.node(node))
+        Ok(&self.core.board.nodes[node as usize])
     }
 
     /// How many nodes the wall has.
