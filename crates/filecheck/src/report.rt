@@ -1,6 +1,6 @@
 //! What is printed of a wall file. specs/Report.antt has every text.
 ghost use Rattle.std.specs.Prelude.{◌≡◌, is_ok, IfOk, Some, string_bytes};
-ghost use Rattle.filecheck.specs.Report.{lead_text, node_line, report_text, said, verdict_text};
+ghost use Rattle.filecheck.specs.Report.{lead_text, line_text, node_line, report_text, said, verdict_text};
 ghost use Rattle.wiring.specs.File.{read_file};
 
 use std::alloc::{AllocError, Global};
@@ -22,7 +22,23 @@ impl fmt::Display for Lead {
     }
 }
 
-// The line of a node. The text names the four ports one by one.
+// The text names the four ports one by one.
+fn line(
+    heap: Global,
+    node: u8,
+    north: Lead,
+    east: Lead,
+    south: Lead,
+    west: Lead,
+) -> Result<String, AllocError>
+    ensures { IfOk result (λ s. string_bytes s ≡ line_text node north.0 east.0 south.0 west.0) }
+{
+    format!(in heap;
+        "node {node}: port 0 to {north}, port 1 to {east}, port 2 to {south}, port 3 to {west}\n"
+    )
+}
+
+// The line of a node.
 fn node_line<W: Wiring>(heap: Global, wiring: &W, node: u8) -> Result<String, AllocError>
     ensures { IfOk result (λ s. string_bytes s ≡ node_line (W.Wiring.layout wiring.now) node) }
 {
@@ -30,9 +46,7 @@ fn node_line<W: Wiring>(heap: Global, wiring: &W, node: u8) -> Result<String, Al
     let east = Lead(wiring.far_end(node, 1));
     let south = Lead(wiring.far_end(node, 2));
     let west = Lead(wiring.far_end(node, 3));
-    format!(in heap;
-        "node {node}: port 0 to {north}, port 1 to {east}, port 2 to {south}, port 3 to {west}\n"
-    )
+    line(heap, node, north, east, south, west)
 }
 
 /// What a wiring is, in full: its counts, and a line for each node that says where its ports lead.

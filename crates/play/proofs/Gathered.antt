@@ -1,9 +1,10 @@
 -- Gathering the raised hands and the packets, one at a time.
-use Rattle.std.proofs.Common.{◌≡◌, ℕ, zero, suc, ◌+◌, ◌<◌, ◌≤◌, Bool, false, cond, List, [], ◌∷◌, ◌++◌, map, filter, length, Some, Option, sym, refl, ap, ◌∙◌, add-one, arith}
+use Rattle.std.proofs.Common.{◌≡◌, ℕ, zero, suc, ◌+◌, ◌<◌, ◌≤◌, Bool, false, cond, List, [], ◌∷◌, ◌++◌, map, filter, length, take, Some, Option, sym, refl, ap, ◌∙◌, add-one, arith}
 use Rattle.std.specs.List.{slice_get, filter_map, cons_option, range_with_len}
 use Rattle.std.proofs.lemmas.Bool.{lt-leb}
 use Rattle.std.proofs.lemmas.List.{map-id}
 use Rattle.std.proofs.lemmas.List.FromFn.{filter_of_map_range_with_len_more}
+use Rattle.std.specs.Option.{option_to_list}
 use Rattle.std.specs.Result.{result_unwrap_or}
 use Rattle.wiring.specs.Layout.{Layout}
 use Rattle.rules.specs.State.{Node, node_of}
@@ -48,3 +49,10 @@ gathered f a (x ∷ xs) h =
 -- The items of a list, taken by number, are the list.
 pub by_number : {X : Type 0} (xs : List X) (n : ℕ) → n ≡ length xs → filter_map (slice_get xs) (range_with_len 0 n) ≡ xs
 by_number xs n e = ap (λ m. filter_map (slice_get xs) (range_with_len 0 m)) e ∙ gathered (slice_get xs) 0 xs (λ i. let same : 0 + i ≡ i = omega arith in ap (slice_get xs) same)
+
+-- One item more, also past the end.
+pub take_nth : {X : Type 0} (xs : List X) (i : ℕ) → take (suc i) xs ≡ take i xs ++ option_to_list (slice_get xs i)
+take_nth [] zero = refl
+take_nth [] (suc i) = refl
+take_nth (x ∷ xs) zero = refl
+take_nth (x ∷ xs) (suc i) = ap (λ ys. x ∷ ys) (take_nth xs i)

@@ -1,8 +1,9 @@
 //! A call of a script, made on a wall.
 ghost use Rattle.std.specs.Prelude.{◌≡◌, ◌≤◌};
-ghost use Rattle.wall.specs.View.{state_of};
+ghost use Rattle.traffic.specs.Posting.{post_reply};
+ghost use Rattle.wall.specs.View.{state_of, done_reply};
 ghost use Rattle.play.specs.Makes.{Makes};
-ghost use Rattle.play.specs.Performs.{Performs};
+ghost use Rattle.play.specs.Performs.{Performs, told};
 ghost use Rattle.play.specs.Places.{places_of};
 
 use chooser::Chooser;
@@ -13,6 +14,18 @@ use std::alloc::{AllocError, Global};
 use tray::Tray;
 use wall::Wall;
 use wiring::Wiring;
+
+fn done(answer: Result<(), Refusal>) -> Result<Reply, Refusal>
+    ensures { told result ≡ done_reply answer }
+{
+    answer.map(|()| Reply::Done)
+}
+
+fn numbered(answer: Result<u32, Refusal>) -> Result<Reply, Refusal>
+    ensures { told result ≡ post_reply answer }
+{
+    answer.map(Reply::Numbered)
+}
 
 /// Makes a call on a wall. A step puts its outcomes into the tray; the others leave it alone.
 // No Model of Wall: its view could not name a member of a bound.
@@ -25,16 +38,14 @@ pub fn perform<W: Wiring, C: Chooser>(
     ensures wiring { wall.new.wiring ≡ wall.old.wiring }
 {
     match call {
-        Call::Cut { node, port } => wall.cut(as_byte(node), as_byte(port)).map(|()| Reply::Done),
-        Call::Hand { node } => wall.hand(as_byte(node)).map(|()| Reply::Done),
+        Call::Cut { node, port } => done(wall.cut(as_byte(node), as_byte(port))),
+        Call::Hand { node } => done(wall.hand(as_byte(node))),
         Call::Slot => Ok(Reply::Slotted(wall.slot())),
         Call::Post {
             source,
             destination,
             word,
-        } => wall
-            .post(as_byte(source), as_byte(destination), word)
-            .map(Reply::Numbered),
+        } => numbered(wall.post(as_byte(source), as_byte(destination), word)),
         Call::Step { .. } => wall.step(tray).map(Reply::Stepped),
     }
 }

@@ -1,8 +1,6 @@
 -- Texts that are written part by part.
-use Rattle.std.proofs.Common.{◌≡◌, ℕ, zero, suc, ◌+◌, ◌≤◌, List, [], ◌++◌, true, false, codes, decimal, sym, ap, ◌∙◌, append_assoc, add-one, le_antisymm, slice_index_or}
-use Rattle.std.proofs.lemmas.List.{append-nil}
+use Rattle.std.proofs.Common.{◌≡◌, ℕ, zero, suc, ◌+◌, ◌≤◌, List, [], ◌++◌, codes, decimal, sym, ap, ◌∙◌, append_assoc, add-one, le_antisymm, slice_index_or}
 use Rattle.std.specs.Fmt.{digits}
-use Rattle.chooser.specs.PortSets.{has}
 use Rattle.chooser.specs.declared.ports.PortSet.{PortSet}
 use Rattle.rules.specs.declared.Mark.{Mark}
 use Rattle.rules.specs.declared.Mark.TheVariants.{Unmarked}
@@ -13,14 +11,8 @@ abbrev pub ports_below : PortSet → ℕ → List ℕ
 ports_below ports zero = []
 ports_below ports (suc n) = ports_below ports n ++ port_digit ports n (decimal n)
 
-module _ (ports : PortSet) (n : ℕ) where
-  pub port_taken : true ≡ has ports n → ports_below ports n ++ decimal n ≡ ports_below ports (n + 1)
-  port_taken is =
-      ap (λ b. ports_below ports n ++ elim b [ true ↦ decimal n | false ↦ [] ]) is ∙ ap (ports_below ports) (sym (add-one n))
-
-  pub port_left : false ≡ has ports n → ports_below ports n ≡ ports_below ports (n + 1)
-  port_left is =
-      sym (append-nil (ports_below ports n)) ∙ ap (λ b. ports_below ports n ++ elim b [ true ↦ decimal n | false ↦ [] ]) is ∙ ap (ports_below ports) (sym (add-one n))
+pub ports_more : (ports : PortSet) (n : ℕ) → ports_below ports n ++ port_digit ports n (decimal n) ≡ ports_below ports (n + 1)
+ports_more ports n = ap (ports_below ports) (sym (add-one n))
 
 grouped : (a b c d : List ℕ) → a ++ b ++ c ++ d ≡ a ++ (b ++ (c ++ d))
 grouped a b c d = simp append_assoc

@@ -1,7 +1,6 @@
 -- What is printed of every answer.
 use Rattle.std.specs.Prelude.{ℕ, Bool, true, false, cond, List, [], ◌∷◌, ◌++◌, length, drop, Some, None, codes, decimal, Option, Result, Ok, Err, ◌==◌, slice_index_or}
 use Rattle.std.specs.List.{flat_map}
-use Rattle.std.specs.Fmt.{◌++?◌}
 use Rattle.chooser.specs.PortSets.{has}
 use Rattle.chooser.specs.declared.ports.PortSet.{PortSet}
 use Rattle.fault.specs.Fault.{fault_number, fault_place}
@@ -25,13 +24,7 @@ use Rattle.reply.specs.declared.types.Reply.{Reply}
 use Rattle.reply.specs.declared.types.Reply.TheVariants.{Done, Slotted, Numbered, Stepped}
 use Rattle.reply.specs.declared.types.Answer.{Answer}
 use Rattle.reply.specs.declared.types.Answer.TheVariants as answer
-
--- Lines
-
--- What was asked for, and what came of it or why it was refused. It says nothing where the text of one is not known.
-abbrev pub told_line : {T F : Type 0} → (T → Option (List ℕ)) → (F → Option (List ℕ)) → Option (List ℕ) → Result T F → Option (List ℕ)
-told_line text why asked (Ok x) = asked ++? (Some (codes ": ") ++? (text x ++? Some (codes "\n")))
-told_line text why asked (Err e) = asked ++? (Some (codes ": refused ") ++? (why e ++? Some (codes "\n")))
+use Rattle.reply.specs.declared.types.TurnedDown.{TurnedDown}
 
 -- Calls
 
@@ -50,6 +43,11 @@ refusal_text r = codes "refused " ++ decimal (refusal_number r)
 abbrev pub or_refused : {T : Type 0} → (T → List ℕ) → Result T Refusal → List ℕ
 or_refused text (Ok x) = text x
 or_refused text (Err r) = refusal_text r
+
+-- The same of a text that may not be known.
+abbrev pub or_refused_text : {T : Type 0} → (T → Option (List ℕ)) → Result T Refusal → Option (List ℕ)
+or_refused_text text (Ok x) = text x
+or_refused_text text (Err r) = Some (refusal_text r)
 
 abbrev pub reply_text : Reply → List ℕ
 reply_text Done = codes "ok"
@@ -145,27 +143,33 @@ flight_line packets =
 
 -- Wirings
 
--- A number of nodes, and a fault with its place, within a line.
-abbrev pub count_text : ℕ → List ℕ
-count_text n = decimal n ++ codes " nodes"
+-- Why there is no wiring: a number, and of a wall file the byte at fault too.
+abbrev pub refused_text : ℕ → Option ℕ → List ℕ
+refused_text number None = codes "refused " ++ decimal number
+refused_text number (Some place) = codes "refused " ++ (decimal number ++ (codes " at " ++ decimal place))
 
+abbrev pub turned_down_text : TurnedDown → List ℕ
+turned_down_text why = refused_text why.number why.place
+
+-- What a fault is as the reason of a mesh, and as that of a wall file.
+abbrev pub by_number : WallFault → TurnedDown
+by_number fault = record { number = fault_number fault; place = None }
+
+abbrev pub at_place : WallFault → TurnedDown
+at_place fault = record { number = fault_number fault; place = Some (fault_place fault) }
+
+-- A fault with its place.
 abbrev pub fault_text : WallFault → List ℕ
 fault_text fault = decimal (fault_number fault) ++ (codes " at " ++ decimal (fault_place fault))
 
-abbrev pub nodes_text : ℕ → List ℕ
-nodes_text n = decimal n ++ codes " nodes\n"
+-- What became of a wiring.
+abbrev pub wired_text : Result ℕ TurnedDown → List ℕ
+wired_text (Ok n) = decimal n ++ codes " nodes"
+wired_text (Err why) = turned_down_text why
 
-abbrev pub mesh_text : Result ℕ WallFault → List ℕ
-mesh_text (Ok n) = nodes_text n
-mesh_text (Err fault) = codes "refused " ++ (decimal (fault_number fault) ++ codes "\n")
+abbrev pub mesh_line : ℕ → ℕ → Result ℕ TurnedDown → List ℕ
+mesh_line columns rows nodes =
+    codes "mesh " ++ (decimal columns ++ (codes " " ++ (decimal rows ++ (codes ": " ++ (wired_text nodes ++ codes "\n")))))
 
-abbrev pub mesh_line : ℕ → ℕ → Result ℕ WallFault → List ℕ
-mesh_line columns rows nodes = codes "mesh " ++ (decimal columns ++ (codes " " ++ (decimal rows ++ (codes ": " ++ mesh_text nodes))))
-
--- A wall file's refusal has the byte at fault too.
-abbrev pub cables_text : Result ℕ WallFault → List ℕ
-cables_text (Ok n) = nodes_text n
-cables_text (Err fault) = codes "refused " ++ (decimal (fault_number fault) ++ (codes " at " ++ (decimal (fault_place fault) ++ codes "\n")))
-
-abbrev pub cables_line : Result ℕ WallFault → List ℕ
-cables_line nodes = codes "cables: " ++ cables_text nodes
+abbrev pub cables_line : Result ℕ TurnedDown → List ℕ
+cables_line nodes = codes "cables: " ++ (wired_text nodes ++ codes "\n")

@@ -1,27 +1,37 @@
 //! Whole lines, each ended by a line feed.
-ghost use Rattle.std.specs.Prelude.{◌≡◌, IfOk, IfSome, Some, string_bytes};
-ghost use Rattle.reply.specs.Text.{told_line, count_text, fault_text, step_lines, answer_line, hands_line, standing_text, packet_text, flight_line, mesh_line, cables_line};
+ghost use Rattle.std.specs.Prelude.{◌≡◌, IfOk, Some, string_bytes};
+ghost use Rattle.std.specs.List.{flat_map};
+ghost use Rattle.reply.specs.Text.{call_line, outcome_line, step_lines, answer_line, hand_item, hands_line, standing_text, packet_text, later_packet, flight_line, mesh_line, cables_line};
 
 use crate::text::EndingWord;
-use crate::types::{Answer, Reply};
-use fault::WallFault;
+use crate::types::{Answer, OrRefused, Reply, TurnedDown, Wired};
 use rules::{Outcome, Packet, Refusal};
 use script::{Call, Question};
 use std::alloc::{AllocError, Global};
 use std::fmt;
 use std::fmt::Write;
 
-// A line of what was asked for, and of what came of it or why it was refused.
-fn line<A: fmt::Display + Drop, T: fmt::Display + Drop, F: fmt::Display + Drop>(
-    heap: Global,
-    asked: A,
-    told: Result<T, F>,
-) -> Result<String, AllocError>
-    ensures { IfOk result (λ s. IfSome (told_line T.output F.output (A.output asked) told) (λ bs. string_bytes s ≡ bs)) }
+fn call_line(heap: Global, call: Call, reply: Result<Reply, Refusal>) -> Result<String, AllocError>
+    ensures { IfOk result (λ s. string_bytes s ≡ call_line call reply) }
 {
-    match told {
-        Ok(told) => format!(in heap; "{asked}: {told}\n"),
-        Err(why) => format!(in heap; "{asked}: refused {why}\n"),
+    let reply = OrRefused(reply);
+    format!(in heap; "{call}: {reply}\n")
+}
+
+// An outcome is of another crate, so its text needs a type of this one.
+#[derive(Clone, Copy)]
+struct OutcomeLine(Outcome);
+
+impl fmt::Display for OutcomeLine {
+    ghost output = { λ x. Some (outcome_line x.0) };
+
+    fn fmt<W: fmt::Write>(&self, f: &mut fmt::Formatter<W>) -> fmt::Result {
+        let outcome = self.0;
+        let number = outcome.number;
+        let ending = EndingWord(outcome.ending);
+        let node = outcome.node;
+        let word = outcome.word;
+        write!(f, "  packet {number} {ending} at {node} word {word}\n")
     }
 }
 
@@ -34,13 +44,10 @@ pub fn call_lines(
 ) -> Result<String, AllocError>
     ensures { IfOk result (λ s. string_bytes s ≡ step_lines call reply outcomes.now) }
 {
-    let mut text = line(heap, call, reply.map_err(Refusal::number))?;
+    let mut text = call_line(heap, call, reply)?;
     for outcome in outcomes {
-        let number = outcome.number;
-        let ending = EndingWord(outcome.ending);
-        let node = outcome.node;
-        let word = outcome.word;
-        write!(text, "  packet {number} {ending} at {node} word {word}\n")?;
+        let line = OutcomeLine(*outcome);
+        write!(text, "{line}")?;
     }
     Ok(text)
 }
@@ -53,7 +60,23 @@ pub fn answer_line(
 ) -> Result<String, AllocError>
     ensures { IfOk result (λ s. string_bytes s ≡ answer_line question answer) }
 {
-    line(heap, question, answer.map_err(Refusal::number))
+    let answer = OrRefused(answer);
+    format!(in heap; "{question}: {answer}\n")
+}
+
+// A slice's text needs a type of this crate.
+#[derive(Clone, Copy)]
+struct HandItems<'a>(&'a [u8]);
+
+impl<'a> fmt::Display for HandItems<'a> {
+    ghost output = { λ x. Some (flat_map hand_item x.0.now) };
+
+    fn fmt<W: fmt::Write>(&self, f: &mut fmt::Formatter<W>) -> fmt::Result {
+        for node in self.0 {
+            write!(f, " {node}")?;
+        }
+        Ok(())
+    }
 }
 
 /// The nodes whose hands are up.
@@ -63,12 +86,8 @@ pub fn hands_line(heap: Global, nodes: &[u8]) -> Result<String, AllocError>
     if nodes.is_empty() {
         return String::from_str(heap, "hands: none\n");
     }
-    let mut text = String::from_str(heap, "hands:")?;
-    for node in nodes {
-        write!(text, " {node}")?;
-    }
-    text.push_str("\n")?;
-    Ok(text)
+    let items = HandItems(nodes);
+    format!(in heap; "hands:{items}\n")
 }
 
 // An option is of another crate, so its text needs a type of this one.
@@ -101,6 +120,22 @@ impl fmt::Display for PacketText {
     }
 }
 
+// A slice's text needs a type of this crate.
+#[derive(Clone, Copy)]
+struct LaterPackets<'a>(&'a [Packet]);
+
+impl<'a> fmt::Display for LaterPackets<'a> {
+    ghost output = { λ x. Some (flat_map later_packet x.0.now) };
+
+    fn fmt<W: fmt::Write>(&self, f: &mut fmt::Formatter<W>) -> fmt::Result {
+        for packet in self.0 {
+            let packet = PacketText(*packet);
+            write!(f, ", {packet}")?;
+        }
+        Ok(())
+    }
+}
+
 /// The packets in flight.
 pub fn flight_line(heap: Global, packets: &[Packet]) -> Result<String, AllocError>
     ensures { IfOk result (λ s. string_bytes s ≡ flight_line packets.now) }
@@ -109,56 +144,28 @@ pub fn flight_line(heap: Global, packets: &[Packet]) -> Result<String, AllocErro
         return String::from_str(heap, "flight: none\n");
     }
     let first = PacketText(packets[0]);
-    let mut text = format!(in heap; "flight: {first}")?;
     let (_, rest) = packets.split_at(1);
-    for packet in rest {
-        let packet = PacketText(*packet);
-        write!(text, ", {packet}")?;
-    }
-    text.push_str("\n")?;
-    Ok(text)
+    let others = LaterPackets(rest);
+    format!(in heap; "flight: {first}{others}\n")
 }
 
-// How many nodes there are.
-#[derive(Clone, Copy)]
-struct NodeCount(u8);
-
-impl fmt::Display for NodeCount {
-    ghost output = { λ x. Some (count_text x.0) };
-
-    fn fmt<W: fmt::Write>(&self, f: &mut fmt::Formatter<W>) -> fmt::Result {
-        write!(f, "{} nodes", self.0)
-    }
-}
-
-/// What became of a mesh of so many columns and rows: how many nodes it has, or its fault.
+/// What became of a mesh of so many columns and rows: how many nodes it has, or why there is none.
 pub fn mesh_line(
     heap: Global,
     columns: u32,
     rows: u32,
-    nodes: Result<u8, WallFault>,
+    nodes: Result<u8, TurnedDown>,
 ) -> Result<String, AllocError>
     ensures { IfOk result (λ s. string_bytes s ≡ mesh_line columns rows nodes) }
 {
-    let mesh = format_args!("mesh {columns} {rows}");
-    line(heap, mesh, nodes.map(NodeCount).map_err(WallFault::number))
+    let wired = Wired(nodes);
+    format!(in heap; "mesh {columns} {rows}: {wired}\n")
 }
 
-// The number of a fault, and where the fault is. A fault is of another crate, so this text needs a type of this one.
-#[derive(Clone, Copy)]
-struct FaultPlace(WallFault);
-
-impl fmt::Display for FaultPlace {
-    ghost output = { λ x. Some (fault_text x.0) };
-
-    fn fmt<W: fmt::Write>(&self, f: &mut fmt::Formatter<W>) -> fmt::Result {
-        write!(f, "{} at {}", self.0.number(), self.0.place())
-    }
-}
-
-/// What became of a wall file: how many nodes it has, or its fault and where that is.
-pub fn cables_line(heap: Global, nodes: Result<u8, WallFault>) -> Result<String, AllocError>
+/// What became of a wall file: how many nodes it has, or why there is none.
+pub fn cables_line(heap: Global, nodes: Result<u8, TurnedDown>) -> Result<String, AllocError>
     ensures { IfOk result (λ s. string_bytes s ≡ cables_line nodes) }
 {
-    line(heap, "cables", nodes.map(NodeCount).map_err(FaultPlace))
+    let wired = Wired(nodes);
+    format!(in heap; "cables: {wired}\n")
 }

@@ -1,10 +1,10 @@
 //! The text of each answer.
-ghost use Rattle.std.specs.Prelude.{Some};
-ghost use Rattle.reply.specs.Text.{ending_word, mark_text, reply_text, ports_text, marks_text, answer_text};
+ghost use Rattle.std.specs.Prelude.{Some, decimal};
+ghost use Rattle.reply.specs.Text.{ending_word, mark_text, reply_text, refusal_text, or_refused_text, port_digit, ports_text, marks_text, answer_text, turned_down_text, wired_text};
 
-use crate::types::{Answer, Reply};
+use crate::types::{Answer, OrRefused, Reply, TurnedDown, Wired};
 use chooser::PortSet;
-use rules::{Ending, Mark, Mode, SlotAnswer, StepCounts};
+use rules::{Ending, Mark, Mode, Refusal, SlotAnswer, StepCounts};
 use std::fmt;
 
 // A mark is of another crate, so its text needs a type of this one.
@@ -38,6 +38,29 @@ impl fmt::Display for EndingWord {
     }
 }
 
+// A refusal is of another crate, so its text needs a type of this one.
+#[derive(Clone, Copy)]
+struct RefusalText(Refusal);
+
+impl fmt::Display for RefusalText {
+    ghost output = { λ x. Some (refusal_text x.0) };
+
+    fn fmt<W: fmt::Write>(&self, f: &mut fmt::Formatter<W>) -> fmt::Result {
+        write!(f, "refused {}", self.0.number())
+    }
+}
+
+impl<T: fmt::Display> fmt::Display for OrRefused<T> {
+    ghost output = { λ x. or_refused_text T.output x.0 };
+
+    fn fmt<W: fmt::Write>(&self, f: &mut fmt::Formatter<W>) -> fmt::Result {
+        match &self.0 {
+            Ok(told) => write!(f, "{told}"),
+            Err(refusal) => write!(f, "{}", RefusalText(*refusal)),
+        }
+    }
+}
+
 impl fmt::Display for Reply {
     ghost output = { λ x. Some (reply_text x) };
 
@@ -63,6 +86,25 @@ impl fmt::Display for Reply {
     }
 }
 
+// The digit of one port, where a set has it.
+#[derive(Clone, Copy)]
+struct PortDigit {
+    ports: PortSet,
+    port: u8,
+}
+
+impl fmt::Display for PortDigit {
+    ghost output = { λ x. Some (port_digit x.ports x.port (decimal x.port)) };
+
+    fn fmt<W: fmt::Write>(&self, f: &mut fmt::Formatter<W>) -> fmt::Result {
+        if self.ports.contains(self.port) {
+            write!(f, "{}", self.port)
+        } else {
+            Ok(())
+        }
+    }
+}
+
 // A set of ports is of another crate, so its text needs a type of this one.
 #[derive(Clone, Copy)]
 struct PortsText(PortSet);
@@ -72,9 +114,8 @@ impl fmt::Display for PortsText {
 
     fn fmt<W: fmt::Write>(&self, f: &mut fmt::Formatter<W>) -> fmt::Result {
         for port in 0..4 {
-            if self.0.contains(port) {
-                write!(f, "{port}")?;
-            }
+            let ports = self.0;
+            write!(f, "{}", PortDigit { ports, port })?;
         }
         Ok(())
     }
@@ -116,6 +157,29 @@ impl fmt::Display for Answer {
             }
             Answer::Calm(true) => write!(f, "yes"),
             Answer::Calm(false) => write!(f, "no"),
+        }
+    }
+}
+
+impl fmt::Display for TurnedDown {
+    ghost output = { λ x. Some (turned_down_text x) };
+
+    fn fmt<W: fmt::Write>(&self, f: &mut fmt::Formatter<W>) -> fmt::Result {
+        let number = self.number;
+        match self.place {
+            None => write!(f, "refused {number}"),
+            Some(place) => write!(f, "refused {number} at {place}"),
+        }
+    }
+}
+
+impl fmt::Display for Wired {
+    ghost output = { λ x. Some (wired_text x.0) };
+
+    fn fmt<W: fmt::Write>(&self, f: &mut fmt::Formatter<W>) -> fmt::Result {
+        match self.0 {
+            Ok(nodes) => write!(f, "{nodes} nodes"),
+            Err(why) => write!(f, "{why}"),
         }
     }
 }

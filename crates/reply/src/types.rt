@@ -1,6 +1,12 @@
-//! The answers of a wall to calls and to questions. A refused one is an `Err` beside them.
+//! The answers of a wall to calls and to questions, and what became of a wiring. A refused one is an
+//! `Err` beside them.
+ghost use Rattle.std.specs.Prelude.{◌≡◌, ◌++◌, codes, decimal};
+ghost use Rattle.fault.specs.Fault.{fault_number};
+ghost use Rattle.reply.specs.Text.{by_number, at_place, fault_text, turned_down_text};
+
 use chooser::PortSet;
-use rules::{Mark, Mode, SlotAnswer, StepCounts};
+use fault::WallFault;
+use rules::{Mark, Mode, Refusal, SlotAnswer, StepCounts};
 
 /// What a wall answers to a call.
 #[derive(Clone, Copy)]
@@ -27,3 +33,42 @@ pub enum Answer {
     /// Whether the wall is calm.
     Calm(bool),
 }
+
+/// A reply or an answer, or why it was refused, as text.
+#[derive(Clone, Copy)]
+pub struct OrRefused<T>(pub Result<T, Refusal>);
+
+/// Why there is no wiring: the number of its fault and, of a wall file, the byte at fault.
+#[derive(Clone, Copy)]
+pub struct TurnedDown {
+    pub number: u8,
+    pub place: Option<u16>,
+}
+
+impl TurnedDown {
+    /// A fault by its number alone, as a mesh has it.
+    pub fn by_number(fault: WallFault) -> TurnedDown
+        ensures value { result ≡ by_number fault }
+        ensures text { turned_down_text result ≡ codes "refused " ++ decimal (fault_number fault) }
+    {
+        TurnedDown {
+            number: fault.number(),
+            place: None,
+        }
+    }
+
+    /// A fault by its number and the byte at fault, as a wall file has it.
+    pub fn at_place(fault: WallFault) -> TurnedDown
+        ensures value { result ≡ at_place fault }
+        ensures text { turned_down_text result ≡ codes "refused " ++ fault_text fault }
+    {
+        TurnedDown {
+            number: fault.number(),
+            place: Some(fault.place()),
+        }
+    }
+}
+
+/// What became of a wiring, as text: how many nodes it has, or why there is none.
+#[derive(Clone, Copy)]
+pub struct Wired(pub Result<u8, TurnedDown>);

@@ -2,7 +2,7 @@
 //! chooser.
 use crate::input;
 use crate::input::{MOST_LINES, Read};
-use reply::{cables_line, mesh_line};
+use reply::{TurnedDown, cables_line, mesh_line};
 use script::{Calls, Line, Picker, Question, as_byte};
 use std::io::{BufReader, Stdin};
 use wiring::{CableList, Mesh, Wiring};
@@ -40,6 +40,7 @@ pub struct Bench {
 fn mesh(rt: &HostRuntime, columns: u32, rows: u32) -> anyhow::Result<Option<Wires>> {
     let mesh = Mesh::new(as_byte(columns), as_byte(rows));
     let nodes = mesh.map(|mesh| mesh.node_count());
+    let nodes = nodes.map_err(TurnedDown::by_number);
     rt.print(mesh_line(rt.alloc(), columns, rows, nodes)?)?;
     Ok(mesh.ok().map(Wires::Mesh))
 }
@@ -48,7 +49,9 @@ fn mesh(rt: &HostRuntime, columns: u32, rows: u32) -> anyhow::Result<Option<Wire
 fn cables(rt: &HostRuntime, bytes: &[u8]) -> anyhow::Result<Option<Wires>> {
     let mut list = CableList::new();
     let read = list.read(bytes);
-    rt.print(cables_line(rt.alloc(), read.map(|()| list.node_count()))?)?;
+    let nodes = read.map(|()| list.node_count());
+    let nodes = nodes.map_err(TurnedDown::at_place);
+    rt.print(cables_line(rt.alloc(), nodes)?)?;
     Ok(read.ok().map(|()| Wires::Cables(list)))
 }
 
@@ -61,7 +64,8 @@ pub fn set_up(rt: &HostRuntime, input: &mut BufReader<Stdin>) -> anyhow::Result<
             return Ok(None);
         };
         let Read { bytes: text, line } = read;
-        let (wires, act) = match (line, wires) {
+        // By reference: a copy of the wiring is made for the bench alone.
+        let (wires, act) = match (line, &wires) {
             (Line::Blank, _) => continue,
             (Line::Mesh { columns, rows }, None) => {
                 wires = mesh(rt, columns, rows)?;
@@ -75,8 +79,8 @@ pub fn set_up(rt: &HostRuntime, input: &mut BufReader<Stdin>) -> anyhow::Result<
                 picker = Some(chosen);
                 continue;
             }
-            (Line::Make(calls), Some(wires)) => (wires, Act::Make(calls)),
-            (Line::Ask(question), Some(wires)) => (wires, Act::Ask(question)),
+            (Line::Make(calls), Some(wires)) => (*wires, Act::Make(calls)),
+            (Line::Ask(question), Some(wires)) => (*wires, Act::Ask(question)),
             _ => return input::unreadable(rt, number, text.as_slice()),
         };
         let picker = picker.unwrap_or(Picker::Lowest);

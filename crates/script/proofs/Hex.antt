@@ -1,5 +1,7 @@
 -- The bytes of a word of hexadecimal digits are what the library decodes.
-use Rattle.std.proofs.Common.{◌≡◌, ℕ, ◌+◌, ◌*◌, ◌%◌, ◌==◌, Bool, true, false, cond, List, [], ◌∷◌, length, Some, None, Ok, Err, Option, Result, refl, ap, sym, ◌∙◌, arith, mul_comm, subst, ◌⊎◌, inl, inr, Vec, IsErr, IsErrAnd}
+use Rattle.std.proofs.Common.{◌≡◌, ℕ, ◌+◌, ◌*◌, ◌%◌, ◌==◌, Bool, true, false, cond, List, [], ◌∷◌, length, Some, None, Ok, Err, Option, Result, refl, ap, sym, ◌∙◌, arith, mul_comm, subst, ◌⊎◌, inl, inr, Vec, IsErr, IsErrAnd, ◌&&◌, is_some}
+use Rattle.std.specs.Char.{is_ascii_hexdigit}
+use Rattle.std.specs.List.{list_all}
 use Rattle.std.specs.declared.alloc.Global.{Global}
 use Rattle.std.proofs.lemmas.Bool.{eqb-true}
 use Rattle.script.specs.declared.trouble.Trouble.{Trouble}
@@ -69,3 +71,25 @@ refused word OutOfMemory why = tt
 pub told : (word : List ℕ) (e : FromHexError) (r : Result (Vec ℕ Global) Trouble) → IsErr r × IsErrAnd r (λ t. t ≡ trouble_of e) → (e ≡ OutOfMemory) ⊎ (decode_of word ≡ Err e) → ReadsBytes (bytes_of word) r
 told word e (Ok v) h why = absurd h.1
 told word e (Err t) h why = subst (λ t. ReadsBytes (bytes_of word) (Err t)) (sym h.1) (refused word e why)
+
+-- Which words write bytes.
+
+some_digit : (c : ℕ) → is_ascii_hexdigit c ≡ is_some (hex_digit c)
+some_digit c = grind (arith, nat_tests)
+
+some_put : (x y : Option ℕ) (rest : Option (List ℕ)) → (is_some x && (is_some y && is_some rest)) ≡ is_some (put_before (hex_byte x y) rest)
+some_put None y rest = refl
+some_put (Some h) None rest = refl
+some_put (Some h) (Some l) None = refl
+some_put (Some h) (Some l) (Some bytes) = refl
+
+pub even : (word : List ℕ) → length word % 2 ≡ 0 → list_all is_ascii_hexdigit word ≡ is_some (bytes_of word)
+unfolding bytes_of
+even [] e = refl
+even (c ∷ []) e = absurd (omega arith)
+even (h ∷ l ∷ rest) e =
+    (let less : length rest % 2 ≡ 0 = omega arith in λ k. some_digit h k && (some_digit l k && even rest less k))
+    ∙ some_put (hex_digit h) (hex_digit l) (bytes_of rest)
+
+pub odd : (word : List ℕ) → (length word % 2 ≡ 0 → ⊥) → false ≡ is_some (bytes_of word)
+odd word e = let one : length word % 2 ≡ 1 = omega arith in sym (ap is_some (odd_none word one))

@@ -1,8 +1,9 @@
 //! Numbers as a script writes them. specs/Numbers.antt says which words are numbers, and which.
-ghost use Rattle.std.specs.Prelude.{◌≡◌, min};
-ghost use Rattle.std.specs.Char.{is_ascii_digit};
+ghost use Rattle.std.specs.Prelude.{◌≡◌, min, None, Err, is_some};
+ghost use Rattle.std.specs.Char.{is_ascii_digit, is_ascii_hexdigit};
 ghost use Rattle.std.specs.List.{list_all};
 ghost use Rattle.script.specs.Numbers.{number_of, bytes_of, ReadsBytes};
+ghost use Rattle.script.specs.declared.trouble.Trouble.TheVariants.{CannotRead};
 
 use crate::trouble::Trouble;
 use std::alloc::Global;
@@ -32,9 +33,38 @@ pub fn as_byte(n: u32) -> u8
     u8::try_from(n).unwrap_or(255)
 }
 
-/// The bytes that a word writes in hexadecimal, two digits to a byte, of either case.
-pub fn hex_bytes(heap: Global, word: &[u8]) -> Result<Vec<u8>, Trouble>
+fn are_hex_digits(word: &[u8]) -> bool
+    ensures { result ≡ list_all is_ascii_hexdigit word.now }
+{
+    word.iter().all(|b| b.is_ascii_hexdigit())
+}
+
+// Whether a word is of hexadecimal digits, two by two.
+#[tactic(auto, using(crate::proofs::Hex::odd, crate::proofs::Hex::even))]
+fn writes_bytes(word: &[u8]) -> bool
+    ensures { result ≡ is_some (bytes_of word.now) }
+{
+    if word.len() % 2 != 0 {
+        return false;
+    }
+    are_hex_digits(word)
+}
+
+// The library asks for memory before it looks at a digit.
+fn decoded(heap: Global, word: &[u8]) -> Result<Vec<u8>, Trouble>
     ensures { ReadsBytes (bytes_of word.now) result }
 {
     Ok(hex::decode(heap, word)?)
+}
+
+/// The bytes that a word writes in hexadecimal, two digits to a byte, of either case. A word that
+/// writes none is refused as such, whatever memory there is.
+pub fn hex_bytes(heap: Global, word: &[u8]) -> Result<Vec<u8>, Trouble>
+    ensures reads { ReadsBytes (bytes_of word.now) result }
+    ensures refuses { bytes_of word.now ≡ None → result ≡ Err CannotRead }
+{
+    if !writes_bytes(word) {
+        return Err(Trouble::CannotRead);
+    }
+    decoded(heap, word)
 }

@@ -1,4 +1,4 @@
-use Rattle.std.proofs.Common.{rules, ◌++◌, string_bytes, refl, ap, ◌∙◌}
+use Rattle.std.proofs.Common.{◌++◌, string_bytes, refl, ap, ◌∙◌}
 use Rattle.std.specs.List.{flat_map}
 use Rattle.reply.specs.Text.{outcome_line}
 use Rattle.reply.proofs.Rows.{rows_more, rows_all}
@@ -12,4 +12,4 @@ loop-outcome-preserved c =
 pub returns : goal.returns
 returns c =
     rows_all outcome_line (string_bytes c.in_ok-text.text) c.args.outcomes.now c.loop-outcome.outcome-index _ c.loop-outcome-test.false c.loop-outcome.invariant
-    ∙ ap (λ t. t ++ flat_map outcome_line c.args.outcomes.now) (search rules)
+    ∙ ap (λ t. t ++ flat_map outcome_line c.args.outcomes.now) c.in_ok-text.ensures
