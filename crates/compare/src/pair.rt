@@ -69,7 +69,7 @@ impl<W: Wiring> Pair<W> {
         let nodes = self.wall.node_count();
         for _ in 0..64u8 {
             let node = random.below(nodes);
-            let port = random.below(4u8);
+            let port = random.below(4);
             if self.wall.cut(node, port).is_ok() {
                 self.net.fail(node, port);
                 let slots = self.slots;

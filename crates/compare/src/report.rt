@@ -53,10 +53,10 @@ fn print_difference(rt: &HostRuntime, difference: Difference) -> io::Result<()> 
             let net = OrNone(net.map(Root));
             println!(rt; "  node {node}: wall {wall}, flags {net}")
         }
-        Difference::Marks { node, wall, net } => {
-            let wall = OrNone(wall);
-            println!(rt; "  node {node} marks: wall {wall}, flags {net}")
-        }
+        Difference::Marks { node, wall, net } => match wall {
+            Some(wall) => println!(rt; "  node {node} marks: wall {wall}, flags {net}"),
+            None => println!(rt; "  node {node} marks: wall ????, flags {net}"),
+        },
         Difference::Entry {
             node,
             to,

@@ -31,7 +31,7 @@ pub enum Difference {
 }
 
 /// A difference, with all that is needed to come to it again: the wall file and the cuts so far.
-#[derive(Drop)]
+#[derive(Clone, Copy)]
 pub struct Found {
     pub difference: Difference,
     pub file: WallFile,
@@ -40,7 +40,7 @@ pub struct Found {
 
 /// How much was compared, how much differs, and the first difference. The counters stay at their
 /// largest value once they have come to it.
-#[derive(Default, Drop)]
+#[derive(Clone, Copy, Default)]
 pub struct Tally {
     pub walls: Saturating<u64>,
     pub recoveries: Saturating<u64>,

@@ -10,10 +10,10 @@ const ROUNDS: u8 = 8;
 
 // Mostly one to three cables, now and then many.
 fn how_many(random: &mut Random) -> u8 {
-    if random.below(8u8) == 0 {
-        1 + random.below(32u8)
+    if random.below(8) == 0 {
+        1 + random.below(32)
     } else {
-        1 + random.below(3u8)
+        1 + random.below(3)
     }
 }
 
@@ -27,10 +27,10 @@ fn cut_some<W: Wiring>(
     tally: &mut Tally,
 ) -> bool {
     let mut any = false;
-    pair.idle(random.below(64u8));
+    pair.idle(random.below(64));
     for _ in 0..how_many(random) {
         if let Some(cut) = pair.cut(random) {
-            let _ = cuts.try_push(cut);
+            cuts.note(cut);
             tally.cuts += 1;
             any = true;
         }

@@ -1,87 +1,96 @@
 //! The bytes of a file that need not be a good one.
-ghost use Rattle.std.specs.Prelude.{◌≡◌, ◌<◌, ◌≤◌, ◌++◌, ◌∷◌, [], IfSome, take, slice_get, slice_set};
-ghost use Rattle.arrayvec.specs.ArrayVec.{array_vec_len};
-
-use arrayvec::ArrayVec;
+ghost use Rattle.std.specs.Prelude.{◌≡◌, ◌+◌, ◌<◌, ◌≤◌, ◌++◌, ◌∷◌, [], min, length, take, IfSome, slice_get, slice_index, slice_set};
 
 /// No file is longer.
 pub const MOST: usize = 600;
 
 /// The bytes of a file, up to 600.
-#[derive(Drop)]
+// An array and a count, and no ArrayVec, so that it is Copy.
+#[derive(Clone, Copy)]
 pub struct FileBytes {
-    bytes: ArrayVec<u8, MOST>,
+    bytes: [u8; MOST],
+    used: usize,
+    ghost within: { used ≤ 600 },
+    ghost long: { length bytes ≡ 600 },
 }
 
 impl FileBytes {
     /// A file of no byte.
     pub(crate) fn new() -> FileBytes
-        ensures { result.bytes.items ≡ [] }
+        ensures used { result.used ≡ 0 }
+        ensures items { take result.used result.bytes ≡ [] }
     {
         FileBytes {
-            bytes: ArrayVec::new(),
+            bytes: [0; MOST],
+            used: 0,
         }
     }
 
     /// How many bytes the file has.
     pub(crate) fn len(&self) -> usize
-        ensures count { result ≡ array_vec_len self.now.bytes }
+        ensures count { result ≡ self.now.used }
         ensures fits { result ≤ 600 }
     {
-        self.bytes.len()
+        self.used
     }
 
     /// The byte at a place; 0 behind the file's end.
     pub(crate) fn get(&self, at: usize) -> u8
-        ensures { IfSome (slice_get self.now.bytes.items at) (λ byte. result ≡ byte) }
+        ensures byte { at < self.now.used → result ≡ slice_index self.now.bytes at }
+        ensures item { IfSome (slice_get (take self.now.used self.now.bytes) at) (λ byte. result ≡ byte) }
     {
-        self.bytes.as_slice().get(at).copied().unwrap_or(0)
+        if at < self.used { self.bytes[at] } else { 0 }
     }
 
     /// Writes over the byte at a place. Behind the file's end nothing is written.
     pub(crate) fn set(&mut self, at: usize, byte: u8)
-        ensures { self.new.bytes.items ≡ slice_set self.old.bytes.items at byte }
+        ensures used { self.new.used ≡ self.old.used }
+        ensures bytes { at < self.old.used → self.new.bytes ≡ slice_set self.old.bytes at byte }
+        ensures items { take self.new.used self.new.bytes ≡ slice_set (take self.old.used self.old.bytes) at byte }
     {
-        if let Some(old) = self.bytes.get_mut(at) {
-            *old = byte;
+        if at < self.used {
+            self.bytes[at] = byte;
         }
     }
 
     /// Flips a bit of the byte at a place, the lowest being bit 0. Behind the file's end nothing is flipped.
     pub(crate) fn flip(&mut self, at: usize, bit: u8) {
-        if let Some(byte) = self.bytes.get_mut(at) {
-            *byte ^= 1 << (bit % 8);
-        }
+        let byte = self.get(at);
+        self.set(at, byte ^ (1 << (bit % 8)));
     }
 
     /// Writes one byte more behind the others. Past 600 nothing is written.
     pub(crate) fn push(&mut self, byte: u8)
-        ensures { array_vec_len self.old.bytes < 600 → self.new.bytes.items ≡ self.old.bytes.items ++ byte ∷ [] }
+        ensures more { self.old.used < 600 → (self.new.used ≡ self.old.used + 1) × (self.new.bytes ≡ slice_set self.old.bytes self.old.used byte) }
+        ensures items { self.old.used < 600 → take self.new.used self.new.bytes ≡ take self.old.used self.old.bytes ++ byte ∷ [] }
     {
-        let _ = self.bytes.try_push(byte);
+        if self.used < MOST {
+            let at = self.used;
+            self.bytes[at] = byte;
+            self.used = at + 1;
+        }
     }
 
     /// Writes some bytes more behind the others, as many as have room.
     pub(crate) fn push_all(&mut self, more: &[u8]) {
-        let _ = self.bytes.extend(more.iter().copied());
+        for byte in more {
+            self.push(*byte);
+        }
     }
 
     /// Cuts the file off, so that it has no more bytes than this.
     pub(crate) fn cut(&mut self, most: usize)
-        ensures { self.new.bytes.items ≡ take most self.old.bytes.items }
+        ensures used { self.new.used ≡ min self.old.used most }
+        ensures bytes { self.new.bytes ≡ self.old.bytes }
+        ensures items { take self.new.used self.new.bytes ≡ take most (take self.old.used self.old.bytes) }
     {
-        self.bytes.truncate(most);
+        self.used = self.used.min(most);
     }
 
     /// The bytes of the file.
     pub(crate) fn as_slice(&self) -> &[u8]
-        ensures { result.now ≡ self.now.bytes.items }
+        ensures { result.now ≡ take self.now.used self.now.bytes }
     {
-        self.bytes.as_slice()
-    }
-
-    /// The bytes of the file, to be written over.
-    pub(crate) fn as_mut_slice(&mut self) -> &mut [u8] {
-        self.bytes.as_mut_slice()
+        &self.bytes[..self.used]
     }
 }

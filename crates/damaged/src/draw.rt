@@ -9,7 +9,7 @@ use sample::Random;
 pub(crate) fn draw_byte(random: &mut Random) -> u8
     ensures { result ≡ mixed (gone_on random.old.state) % 256 }
 {
-    random.below(256usize) as u8
+    random.under(256usize) as u8
 }
 
 /// Writes so many random bytes behind a file's end.

@@ -5,7 +5,7 @@ ghost use Rattle.damaged.specs.Hash.{hashed_byte};
 use std::fmt;
 
 /// The hash of nothing.
-const START: u64 = 0xcbf2_9ce4_8422_2325;
+pub const START: u64 = 0xcbf2_9ce4_8422_2325;
 
 /// A hash of bytes, at first of none.
 #[derive(Clone, Copy)]

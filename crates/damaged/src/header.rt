@@ -14,20 +14,20 @@ pub const CABLE_COUNT: usize = 6;
 
 /// Writes a random byte over one of the header.
 pub(crate) fn change_byte(file: &mut FileBytes, random: &mut Random) {
-    let at = random.below(HEADER);
+    let at = random.under(HEADER);
     file.set(at, draw_byte(random));
 }
 
 /// Flips one bit of the header.
 pub(crate) fn flip_bit(file: &mut FileBytes, random: &mut Random) {
-    let at = random.below(HEADER);
-    let bit = random.below(8u8);
+    let at = random.under(HEADER);
+    let bit = random.below(8);
     file.flip(at, bit);
 }
 
 /// Writes a random byte over one of the counts.
 pub(crate) fn change_count(file: &mut FileBytes, random: &mut Random) {
-    let at = NODE_COUNT + random.below(2usize);
+    let at = NODE_COUNT + random.under(2usize);
     file.set(at, draw_byte(random));
 }
 
@@ -39,7 +39,7 @@ pub(crate) fn take_other_node_count(file: &mut FileBytes, random: &mut Random) {
 
 /// Keeps the mark and the version, and puts random bytes, 0 to 595, in the place of all others.
 pub(crate) fn randomize_behind_version(file: &mut FileBytes, random: &mut Random) {
-    let bytes = random.below(596usize);
+    let bytes = random.under(596usize);
     file.cut(NODE_COUNT);
     push_random(file, random, bytes);
 }

@@ -47,8 +47,8 @@ fn note_answer(answer: Result<usize, PageFault>, tally: &mut Tally) {
 
 // Asks for the page of a random node, to be put into a tray over a front part of the memory.
 fn ask_page(file: &[u8], memory: &mut [u8], random: &mut Random) -> Result<usize, PageFault> {
-    let node = random.below(64u8);
-    let room = random.below(PAGE_MAX + 1).min(memory.len());
+    let node = random.below(64);
+    let room = random.under(PAGE_MAX + 1).min(memory.len());
     let mut tray = Tray::new(&mut memory[0..room]);
     page_of_file(file, node, &mut tray)
 }

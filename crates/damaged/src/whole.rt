@@ -6,13 +6,13 @@ use sample::Random;
 
 /// Cuts the file off at any place, its end included.
 pub(crate) fn cut_anywhere(file: &mut FileBytes, random: &mut Random) {
-    let most = random.below(file.len() + 1);
+    let most = random.under(file.len() + 1);
     file.cut(most);
 }
 
 /// Cuts the file off in its header or right behind it.
 pub(crate) fn cut_in_header(file: &mut FileBytes, random: &mut Random) {
-    let most = random.below(HEADER + 1);
+    let most = random.under(HEADER + 1);
     file.cut(most);
 }
 
@@ -26,29 +26,29 @@ pub(crate) fn cut_between_cables(file: &mut FileBytes, random: &mut Random) {
 
 /// Writes one to eight random bytes behind the file's end.
 pub(crate) fn lengthen(file: &mut FileBytes, random: &mut Random) {
-    let more = 1 + random.below(8usize);
+    let more = 1 + random.under(8usize);
     push_random(file, random, more);
 }
 
 /// Puts random bytes in the file's place, 0 to 600.
 pub(crate) fn randomize(file: &mut FileBytes, random: &mut Random) {
-    let bytes = random.below(601usize);
+    let bytes = random.under(601usize);
     file.cut(0);
     push_random(file, random, bytes);
 }
 
 /// Flips one bit of any byte.
 pub(crate) fn flip_bit(file: &mut FileBytes, random: &mut Random) {
-    let at = random.below(file.len());
-    let bit = random.below(8u8);
+    let at = random.under(file.len());
+    let bit = random.below(8);
     file.flip(at, bit);
 }
 
 /// Writes random bytes over two to five bytes.
 pub(crate) fn change_bytes(file: &mut FileBytes, random: &mut Random) {
-    let times = 2 + random.below(4u8);
+    let times = 2 + random.below(4);
     for _ in 0..times {
-        let at = random.below(file.len());
+        let at = random.under(file.len());
         file.set(at, draw_byte(random));
     }
 }

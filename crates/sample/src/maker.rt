@@ -55,9 +55,9 @@ fn partner_of(random: &mut Random, plan: &Plan, node: u8) -> u8 {
 impl Plan {
     /// A random plan: 1 to 64 nodes, from sparse to dense, of each kind.
     pub fn any(random: &mut Random) -> Plan {
-        let nodes = 1 + random.below(64u8);
-        let dense = 1 + random.below(16u8);
-        let partner = match random.below(4u8) {
+        let nodes = 1 + random.below(64);
+        let dense = 1 + random.below(16);
+        let partner = match random.below(4) {
             0 => Partner::Next,
             1 => Partner::SameRest(2 + random.below(3)),
             _ => Partner::Any,

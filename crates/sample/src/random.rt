@@ -66,7 +66,17 @@ impl Random {
     }
 
     /// The next number below `n`; 0 where `n` is 0.
-    pub fn below<N: Bound>(&mut self, n: N) -> N
+    pub fn below(&mut self, n: u8) -> u8
+        ensures state { self.new.state ≡ gone_on self.old.state }
+        ensures value { 0 < n → result ≡ mixed (gone_on self.old.state) % n }
+        ensures bound { 0 < n → result < n }
+        ensures none { n ≡ 0 → result ≡ 0 }
+    {
+        self.under(n)
+    }
+
+    /// The same at any unsigned type. `below` has a type of its own, so that a bare literal may be passed.
+    pub fn under<N: Bound>(&mut self, n: N) -> N
         ensures state { self.new.state ≡ gone_on self.old.state }
         ensures value { 0 < N.number n → N.number result ≡ mixed (gone_on self.old.state) % N.number n }
         ensures bound { 0 < N.number n → N.number result < N.number n }

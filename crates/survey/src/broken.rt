@@ -30,7 +30,7 @@ fn cables(walls: &Walls, random: &mut Random, cuts: u8, patterns: u32) -> Sums {
         let mut field = Field::power_up(&walls.next(random));
         let mut effort = field.settle();
         if cuts > 0 {
-            field.idle(random.below(64u8));
+            field.idle(random.below(64));
             field.cut_random(random, cuts);
             effort = field.settle();
         }
@@ -78,7 +78,7 @@ pub(crate) fn print_cables(
 fn break_nodes(walls: &Walls, random: &mut Random, gone: &[u8], sums: &mut Sums) {
     let mut field = Field::power_up(&walls.next(random));
     let _ = field.settle();
-    field.idle(random.below(64u8));
+    field.idle(random.below(64));
     for node in gone {
         field.cut_node(*node);
     }
@@ -125,11 +125,11 @@ fn past(drawn: u8, gone: u8) -> u8 {
 fn three_nodes(walls: &Walls, random: &mut Random, patterns: u32) -> Sums {
     let mut sums = Sums::default();
     for _ in 0..patterns {
-        let first = random.below(64u8);
-        let second = past(random.below(63u8), first);
+        let first = random.below(64);
+        let second = past(random.below(63), first);
         let low = first.min(second);
         let high = first.max(second);
-        let third = past(past(random.below(62u8), low), high);
+        let third = past(past(random.below(62), low), high);
         break_nodes(walls, random, &[low, high, third], &mut sums);
     }
     sums

@@ -20,7 +20,7 @@ pub struct Port {
 pub type Ports = [[Port; 4]; 64];
 
 /// A port with no cable.
-const NO_PORT: Port = Port {
+pub const NO_PORT: Port = Port {
     far: None,
     mark: Mark::Unmarked,
 };
@@ -123,7 +123,7 @@ impl Field {
             if left == 0 {
                 break;
             }
-            if self.cut(random.below(nodes), random.below(4u8)) {
+            if self.cut(random.below(nodes), random.below(4)) {
                 left -= 1;
             }
         }

@@ -69,8 +69,8 @@ impl Fates {
     // Posts packets between random nodes; each has its destination as its word.
     fn post(&mut self, field: &mut Field, random: &mut Random, times: u8) {
         for _ in 0..times {
-            let source = random.below(64u8);
-            let destination = random.below(64u8);
+            let source = random.below(64);
+            let destination = random.below(64);
             if field
                 .wall
                 .post(source, destination, u32::from(destination))
@@ -87,10 +87,10 @@ impl Fates {
         self.post(field, random, FIRST_POSTS);
         for _ in 0..ROUNDS {
             self.post(field, random, POSTS);
-            let now = left.min(random.below(4u8));
+            let now = left.min(random.below(4));
             field.cut_random(random, now);
             left = left.saturating_sub(now);
-            for _ in 0..random.below(16u8) {
+            for _ in 0..random.below(16) {
                 let _ = field.wall.slot();
                 self.step(field);
             }
