@@ -5,7 +5,7 @@
 //! said in `specs/Host.antt`, by the definitions of the pages themselves.
 #![tactic(auto)]
 
-ghost use Rattle.std.specs.Prelude.{◌≡◌, ◌≤◌, length, IfOk};
+ghost use Rattle.std.specs.Prelude.{◌≡◌, ◌≤◌, min, length, IfOk};
 ghost use Rattle.host.specs.Host.{told, asked, place_after, Enough};
 
 use page::{PageFault, page_of_file};
@@ -34,9 +34,15 @@ fn write_page(file: &[u8], node: u32, out: &mut [u8]) -> Result<usize, PageFault
     ensures enough { Enough 2048 }
 {
     let mut tray = Tray::new(out);
-    // A number that does not fit a byte is taken for 255, which is no node of any wall.
-    let node = u8::try_from(node).unwrap_or(255);
-    page_of_file(file, node, &mut tray)
+    page_of_file(file, narrow(node), &mut tray)
+}
+
+// A node's number in a byte. One that does not fit is taken for 255, which is no node of any wall.
+#[tactic(auto, using(crate::proofs::Narrowed::narrowed))]
+fn narrow(node: u32) -> u8
+    ensures { result ≡ min node 255 }
+{
+    u8::try_from(node).unwrap_or(255)
 }
 
 // The answer as the host gets it.

@@ -1,7 +1,6 @@
 -- A line that grows by a port, a page that grows by an entry, and a wall's text that grows by a page.
-use Rattle.std.proofs.Common.{◌≡◌, ℕ, zero, suc, ◌+◌, ◌*◌, ◌<◌, Bool, true, false, cond, ◌||◌, leb, List, [], ◌∷◌, ◌++◌, Ok, Err, Option, Result, sym, ap, ◌∙◌, add-one, arith}
+use Rattle.std.proofs.Common.{◌≡◌, ℕ, zero, suc, ◌+◌, ◌*◌, ◌<◌, Bool, true, false, ◌||◌, leb, List, Ok, Err, Option, Result, sym, ap, ◌∙◌, add-one, arith}
 use Rattle.wiring.specs.Layout.{Layout}
-use Rattle.chooser.specs.PortSets.{has}
 use Rattle.chooser.specs.declared.ports.PortSet.{PortSet}
 use Rattle.tray.specs.declared.types.Tray.{Tray}
 use Rattle.tray.specs.Filled.{filled}
@@ -36,13 +35,6 @@ module _ (ports : PortSet) (a : Tray ℕ) where
   pub all_ports : (k : ℕ) (b : Tray ℕ) → k ≡ 4 → Writes k (first_ports (filled a) ports k) a b → Writes 4 (with_ports (filled a) ports) a b
   unfolding first_ports
   all_ports k b e p = writes_same p (omega arith) (ap (λ n. first_ports (filled a) ports n) e)
-
--- A port's digit, where the port is in the set.
-pub port_in : (ports : PortSet) (k : ℕ) (b c : Tray ℕ) → has ports k ≡ true → Writes 1 (filled b ++ ((48 + k) ∷ [])) b c → Writes 1 (with_port (filled b) ports k) b c
-port_in ports k b c e p = writes_same p (omega arith) (ap (λ t. cond t (filled b ++ ((48 + k) ∷ [])) (filled b)) (sym e))
-
-pub port_out : (ports : PortSet) (k : ℕ) (b : Tray ℕ) → has ports k ≡ false → Writes 1 (with_port (filled b) ports k) b b
-port_out ports k b e = writes_same (writes_none b) (omega arith) (ap (λ t. cond t (filled b ++ ((48 + k) ∷ [])) (filled b)) (sym e))
 
 -- The value of an accepted question.
 pub checked_value : {T : Type 0} (b : Bool) (x value : T) → Ok x ≡ checked b value → x ≡ value

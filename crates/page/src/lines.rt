@@ -3,7 +3,7 @@ ghost use Rattle.std.specs.Prelude.{◌<◌, ◌≤◌, ◌++◌, length};
 ghost use Rattle.tray.specs.Filled.{filled, rest};
 ghost use Rattle.page.specs.Sheet.{Writes};
 ghost use Rattle.pagetext.specs.Laws.{ByteRoot, ByteCount};
-ghost use Rattle.pagetext.specs.Text.{numeral, root_text, marks_text, with_node, with_ports, with_line, with_entry};
+ghost use Rattle.pagetext.specs.Text.{numeral, root_text, marks_text, with_node, with_port, with_ports, with_line, with_entry};
 
 use crate::numbers::put_number;
 use crate::sheet::put_text;
@@ -49,15 +49,25 @@ pub(crate) fn put_node(sheet: &mut Tray<u8>, node: u8, mode: Mode, marks: [Mark;
     put_text(sheet, b"\n");
 }
 
+// Writes a port's digit, if the port is in the set.
+fn put_port(sheet: &mut Tray<u8>, ports: PortSet, port: u8)
+    requires small { port < 4 }
+    requires free { 1 ≤ length (rest sheet.old) }
+    ensures { Writes 1 (with_port (filled sheet.old) ports port) sheet.old sheet.new }
+{
+    if ports.contains(port) {
+        put_text(sheet, &[b'0' + port]);
+    }
+}
+
 // Writes the ports of a set as ascending digits.
+#[tactic(auto, using(crate::proofs::Growing::no_ports, crate::proofs::Growing::more_ports, crate::proofs::Growing::all_ports))]
 fn put_ports(sheet: &mut Tray<u8>, ports: PortSet)
     requires { 4 ≤ length (rest sheet.old) }
     ensures { Writes 4 (with_ports (filled sheet.old) ports) sheet.old sheet.new }
 {
     for port in 0..4 {
-        if ports.contains(port) {
-            put_text(sheet, &[b'0' + port]);
-        }
+        put_port(sheet, ports, port);
     }
 }
 

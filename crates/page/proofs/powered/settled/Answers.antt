@@ -17,5 +17,5 @@ returns g c = record {
   wiring = c.loop.invariant.0 ∙ c.power_up-wall.ensures.parts.0;
   state =
       wall_settled g.W.Wiring.layout c.args.wiring c.loop.counter c.power_up-wall.result.wiring c.loop.wall.core
-      c.power_up-wall.ensures.parts.0 (omega (arith, c.node_count.ensures)) c.loop.invariant.1;
+      c.power_up-wall.ensures.parts.0 (omega (arith, c.node_count.ensures, c.slots_for-end.ensures)) c.loop.invariant.1;
 }
