@@ -90,7 +90,7 @@ pub(crate) fn join_to_itself(file: &mut FileBytes, random: &mut Random) {
 /// Writes a port above 3 at a random end of a random cable.
 pub(crate) fn change_port(file: &mut FileBytes, random: &mut Random) {
     let at = draw_cable(file, random);
-    let end = 1 + 2 * random.under(2usize);
+    let end = 1 + 2 * usize::from(random.below(2));
     let port = 4 + random.below(252);
     let mut cable = cable_at(file, at);
     cable[end] = port;

@@ -26,7 +26,7 @@ pub(crate) fn cut_between_cables(file: &mut FileBytes, random: &mut Random) {
 
 /// Writes one to eight random bytes behind the file's end.
 pub(crate) fn lengthen(file: &mut FileBytes, random: &mut Random) {
-    let more = 1 + random.under(8usize);
+    let more = 1 + usize::from(random.below(8));
     push_random(file, random, more);
 }
 

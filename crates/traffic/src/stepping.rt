@@ -3,7 +3,6 @@ ghost use Rattle.std.specs.Prelude.{◌≡◌, ◌+◌, ◌<◌, ◌≤◌, [], 
 ghost use Rattle.rules.specs.declared.Packet.{Packet};
 ghost use Rattle.tray.specs.Filled.{rest, Puts};
 ghost use Rattle.traffic.specs.Inside.{Inside};
-ghost use Rattle.traffic.specs.Occupied.{Room, Arrives};
 ghost use Rattle.traffic.specs.Stepping.{StepDone, StepRefused};
 ghost use Rattle.traffic.specs.Sweeping.{staying, BehindStays, ReadyFor, Applies, OccupancyFollows, Onward};
 
@@ -67,6 +66,7 @@ impl Flight {
             Fate::Waits => {
                 sweep.counts.waited += 1;
                 self.keep(sweep, x);
+                sweep.occupancy.arrive(x);
             }
             Fate::Delivered => {
                 sweep.counts.delivered += 1;
@@ -84,23 +84,23 @@ impl Flight {
                     ..x
                 };
                 self.keep(sweep, moved);
+                sweep.occupancy.arrive(moved);
             }
         }
     }
 
-    // The packet stays in flight: it takes the next of the first places, and is counted where it stands.
+    // The packet stays in flight: it takes the next of the first places.
     #[tactic(auto, using(crate::proofs::Standing::inside_set))]
     fn keep(&mut self, sweep: &mut Sweep, x: Packet)
-        requires { (sweep.old.stayed < 256) × (Inside x) × (Room sweep.old.occupancy) }
+        requires { (sweep.old.stayed < 256) × (Inside x) }
         ensures staying { staying self.new sweep.new ≡ staying self.old sweep.old ++ x ∷ [] }
         ensures behind { BehindStays sweep.old.stayed self.old self.new }
-        ensures occupied { Arrives sweep.old.occupancy x sweep.new.occupancy }
+        ensures occupied { sweep.new.occupancy ≡ sweep.old.occupancy }
         ensures stayed { sweep.new.stayed ≡ sweep.old.stayed + 1 }
         ensures counts { sweep.new.counts ≡ sweep.old.counts }
     {
         self.places[sweep.stayed] = x;
         sweep.stayed += 1;
-        sweep.occupancy.arrive(x);
     }
 }
 

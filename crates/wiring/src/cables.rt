@@ -27,24 +27,21 @@ pub(crate) fn slot_of(end: (u8, u8)) -> usize
     4 * end.0 as usize + end.1 as usize
 }
 
+// The table of no cable.
+fn no_cables() -> [Option<(u8, u8)>; 256]
+    ensures { result ≡ bare }
+{
+    [None; 256]
+}
+
 impl CableList {
     /// One node and no cable: what a list is before any file.
     pub fn new() -> CableList
         ensures { cabled result.count result.ends ≡ lone }
     {
-        CableList::without_cables(1)
-    }
-
-    // So many nodes and no cable.
-    pub(crate) fn without_cables(count: u8) -> CableList
-        requires some { 1 ≤ count }
-        requires few { count ≤ 64 }
-        ensures count { result.count ≡ count }
-        ensures ends { result.ends ≡ bare }
-    {
         CableList {
-            count,
-            ends: [None; 256],
+            count: 1,
+            ends: no_cables(),
         }
     }
 }

@@ -3,7 +3,7 @@
 //! node, port, node, port. specs/File.antt says what the reader answers, byte by byte, and
 //! specs/Spells.antt what it is for a file to spell a wiring.
 ghost use Rattle.std.specs.Prelude.{◌≡◌, ℕ, ◌+◌, ◌*◌, ◌<◌, ◌≤◌, List, length, Some, None, Ok, Err, MatchResult};
-ghost use Rattle.wiring.specs.Cables.{join, cabled};
+ghost use Rattle.wiring.specs.Cables.{bare, join, cabled};
 ghost use Rattle.wiring.specs.Spells.{Spelling, Unspelled};
 ghost use Rattle.wiring.specs.Wired.{wired};
 ghost use Rattle.wiring.specs.File.{mark_fault, header_fault, nodes_said, cable_at, refused_or, end_problem, taken_problem, problem, lay, Gives, read_table, read_file};
@@ -72,6 +72,19 @@ fn join(ends: &mut [Option<(u8, u8)>; 256], cable: Cable)
 }
 
 impl CableList {
+    // So many nodes and no cable: a list before its file's first cable.
+    fn without_cables(count: u8) -> CableList
+        requires some { 1 ≤ count }
+        requires few { count ≤ 64 }
+        ensures count { result.count ≡ count }
+        ensures ends { result.ends ≡ bare }
+    {
+        CableList {
+            count,
+            ends: [None; 256],
+        }
+    }
+
     // An end is a node that there is and one of its ports; `byte` is where the cable has it.
     fn check_end(&self, end: (u8, u8), byte: u8) -> Result<(), (CableProblem, u8)>
         requires { byte < 3 }
